@@ -2,8 +2,8 @@
 use Rattle.std.proofs.Common.{◌≡◌, ℕ, zero, suc, ◌<◌, ◌≤◌, List, [], ◌∷◌, length, get_or, Bool, true, false, IsTrue, arith, ltb, ltb-true, ltb-false, sym, add-one, refl}
 use Rattle.std.specs.List.{IsAllAdjacentAnswer}
 use Rattle.std.proofs.lemmas.Bool.{false≢true}
-use Rattle.sift_base.specs.laws.Counts.{IsBelowAll}
 use Rattle.sift_base.specs.Units.{IsAscending}
+use Rattle.sift_base.specs.laws.Counts.{IsBelowAll}
 
 -- what is below a number is below all that this one is below
 below_more : (x y : ℕ) (ys : List ℕ) → x < y → IsBelowAll y ys → IsBelowAll x ys

@@ -11,6 +11,13 @@ use Rattle.sift_buffer.specs.Conduct.{Conduct, Hearing, fresh}
 use Rattle.sift_buffer.specs.Journals.{Pages, HasWordsOf, no_pages}
 use Rattle.sift_buffer.specs.Tables.{ranges_of}
 use Rattle.sift_buffer.specs.Views.{View}
+use Rattle.sift_config.specs.laws.FirstUnits.{low_unit, unit_low}
+use Rattle.sift_ether.specs.Landed.{HaveLanded}
+use Rattle.sift_ether.specs.Seating.{IsTokenBack, TokensComeBack, ComesBack}
+use Rattle.sift_ether.specs.Seats.{view_of, Follows}
+use Rattle.sift_ether.specs.Tokens.{AreTokensOf, IsMade, IsTokenOf, conduct_at, conduct_of}
+use Rattle.sift_ether.specs.declared.ether.Ether.{Ether}
+use Rattle.sift_ether.specs.declared.token.Token.{Token}
 use Rattle.sift_mission.specs.Data.{MissionData, FlownMission}
 use Rattle.sift_mission.specs.Fits.{Fits}
 use Rattle.sift_mission.specs.Flown.{flown}
@@ -21,30 +28,23 @@ use Rattle.sift_conduct.specs.Conduct.{Account, account_of}
 use Rattle.sift_conduct.specs.declared.account.Account.{Account as TheAccount}
 use Rattle.sift_conduct.specs.Acts.{BoardKeeps, stamp_and_moment}
 use Rattle.sift_conduct.specs.Frames.{frames_before}
-use Rattle.sift_unit.specs.Boards.{desk_of, Drives}
-use Rattle.sift_unit.specs.Down.{DownLaw, HasFlownAll}
-use Rattle.sift_ether.specs.Landed.{HaveLanded}
-use Rattle.sift_ether.specs.Seating.{IsTokenBack, TokensComeBack, ComesBack}
-use Rattle.sift_ether.specs.Seats.{view_of, Follows}
-use Rattle.sift_ether.specs.Tokens.{AreTokensOf, IsMade, IsTokenOf, conduct_at, conduct_of}
-use Rattle.sift_ether.specs.declared.ether.Ether.{Ether}
-use Rattle.sift_ether.specs.declared.token.Token.{Token}
 use Rattle.sift_flight.specs.Flight.{config_of, Strays, HasNoStorms, IsRound}
 use Rattle.sift_flight.specs.Homing.{HasComeHome, FlightsThatComeHomeAreRound}
 use Rattle.sift_flight.specs.Landing.{HasPlacesFor, strays_in}
 use Rattle.sift_flight.specs.Told.{told, journal_of, accounts_of, no_account, IsLogged}
 use Rattle.sift_flight.specs.declared.flight.Flight.{Flight as TheFlight}
-use Rattle.sift_bus.specs.Boarding.{AreBoarded, Boarded, IsBoarded, seat_view}
+use Rattle.sift_unit.specs.Boards.{desk_of, Drives}
+use Rattle.sift_unit.specs.Down.{DownLaw, HasFlownAll}
 use Rattle.sift_bus_port.specs.Buses.{Carriage}
 use Rattle.sift_bus_port.specs.Flown.{IsLogOf, AreLogsOf}
 use Rattle.sift_bus_port.specs.Links.{GoesOn, Link, first_link, link_of}
 use Rattle.sift_bus_port.specs.Logs.{blank_log, log_of}
 use Rattle.sift_bus_port.specs.Telling.{LogsTellWhatWasHeard}
 use Rattle.sift_bus_port.specs.declared.log.BusLog.{BusLog}
-use Rattle.sift_config.specs.laws.FirstUnits.{low_unit, unit_low}
+use Rattle.sift_bus_port.proofs.lemmas.Ranges.{same_ranges}
+use Rattle.sift_bus.specs.Boarding.{AreBoarded, Boarded, IsBoarded, seat_view}
 use Rattle.sift_bus.proofs.Seating.{places_for}
 use Rattle.sift_bus.proofs.SeatsTaken.{boarded_long, boarded_at}
-use Rattle.sift_bus_port.proofs.lemmas.Ranges.{same_ranges}
 use Rattle.sift_bus.proofs.Sides.{side_at, side_long}
 
 -- what stands at a place of a list, whatever stands for places past its end

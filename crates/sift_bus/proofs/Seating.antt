@@ -3,13 +3,13 @@ use Rattle.std.proofs.Common.{◌≡◌, ℕ, refl, sym, subst, true, arith}
 use Rattle.sift_base.specs.Units.{has}
 use Rattle.sift_buffer.specs.Tables.{ranges_of}
 use Rattle.sift_buffer.specs.Views.{View, fresh_view}
+use Rattle.sift_config.specs.laws.FirstUnits.{unit_low}
 use Rattle.sift_mission.specs.Data.{MissionData}
 use Rattle.sift_mission.specs.Flown.{flown}
 use Rattle.sift_mission.specs.PartsFit.{PartsFit}
+use Rattle.sift_flight.specs.Landing.{HasPlacesFor}
 use Rattle.sift_unit.specs.Boards.{Drives, IsNewBoard, NewBoardLaw, IsPortOf}
 use Rattle.sift_unit.specs.declared.board.Board.{Board}
-use Rattle.sift_flight.specs.Landing.{HasPlacesFor}
-use Rattle.sift_config.specs.laws.FirstUnits.{unit_low}
 
 -- a port of the mission's layout and frames has room for the mission
 port_fits : (d : MissionData) → PartsFit d → IsPortOf (flown d) (ranges_of d.layout d.frames)

@@ -9,10 +9,10 @@ use Rattle.sift_base.specs.declared.layout.Layout.{Layout}
 use Rattle.sift_buffer.specs.Conduct.{Hearing}
 use Rattle.sift_buffer.specs.Ranges.{Ranges}
 use Rattle.sift_buffer.specs.Tables.{ranges_of}
-use Rattle.sift_flight.specs.Flight.{Flight, config_of}
 use Rattle.sift_mission.specs.Fits.{IsNumbered}
 use Rattle.sift_mission.specs.Data.{FlownMission}
 use Rattle.sift_mission.specs.Slots.{calls}
+use Rattle.sift_flight.specs.Flight.{Flight, config_of}
 use Rattle.sift_bus_port.specs.Buses.{AllowsConstant, Carriage, is_same}
 use Rattle.sift_bus_port.specs.Flown.{AreLogsOf, IsLogOf}
 use Rattle.sift_bus_port.specs.Links.{CarriesAll, Link, first_link}

@@ -5,12 +5,12 @@ use Rattle.toml.specs.Data.{Data, Members, get_member}
 use Rattle.sift_base.specs.Stop.{IfRefused}
 use Rattle.sift_base.specs.declared.stop.Stop.{Stop}
 use Rattle.sift_base.specs.declared.stop.Stop.TheVariants as stop
-use Rattle.sift_document.specs.laws.Numbers.{between_at}
-use Rattle.sift_document.specs.laws.OneBroken.{kept_unbroken, one_broken}
-use Rattle.sift_document.specs.laws.ReadEntries.{array_between-long}
 use Rattle.sift_document.specs.Document.{word_array, word_value}
 use Rattle.sift_document.specs.Testing.{OnlyRefuses}
 use Rattle.sift_document.specs.declared.rule.BrokenRule.{BrokenRule}
+use Rattle.sift_document.specs.laws.Numbers.{between_at}
+use Rattle.sift_document.specs.laws.OneBroken.{kept_unbroken, one_broken}
+use Rattle.sift_document.specs.laws.ReadEntries.{array_between-long}
 use Rattle.sift_byz.specs.Lawful.{IsPlanOf, IsRefusedWith, OnePlan, OneRefusal, PlansAreAccepted, StatedPlansAreLawful, rules_of}
 use Rattle.sift_byz.specs.Plan.{LieData, PlanData, teller_count, most_traitors, most_units}
 use Rattle.sift_byz.specs.Stated.{lie_in, lies_of}

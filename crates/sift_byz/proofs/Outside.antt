@@ -72,5 +72,3 @@ pub outside_more : (path : List ℕ) (u : ℕ) → outside (range_with_len 0 (su
 outside_more path u =
     ap (λ us. outside us path) (range-more 0 u) ∙ filter-append (λ v. not (has path v)) (range_with_len 0 u) ((0 + u) ∷ [])
     ∙ ap (λ x. outside (range_with_len 0 u) path ++ outside (x ∷ []) path) (omega arith)
-
--- ---- lists of what units tell

@@ -3,13 +3,13 @@ use Rattle.std.proofs.Common.{◌≡◌, ◌≢◌, ℕ, ◌*◌, ◌<◌, ◌�
 use Rattle.std.specs.Prelude.{unwrap_or}
 use Rattle.std.proofs.lemmas.Bool.{cases_Bool, cases_eq, eqb-true, ne_eqb, eq-eqb}
 use Rattle.std.proofs.lemmas.List.{length-map}
-use Rattle.sift_agree.specs.laws.Taking.{votes-working}
-use Rattle.sift_agree.specs.laws.Winners.{won-agreed}
 use Rattle.sift_base.specs.Units.{faulty_count, has, others}
 use Rattle.sift_base.specs.laws.Counts.{count-cons, count-no, count-yes, has-head, has-tail}
 use Rattle.sift_base.specs.laws.Others.{count-others-<, has-others, length-others, times_in}
 use Rattle.sift_vote.specs.Majority.{agreed_of, IsAgreed, IsMajority, decided, is_vote_for, undecided, votes_for}
 use Rattle.sift_vote.specs.laws.Found.{agreed_word_is_found}
+use Rattle.sift_agree.specs.laws.Taking.{votes-working}
+use Rattle.sift_agree.specs.laws.Winners.{won-agreed}
 
 -- ---- absence is read as 0
 

@@ -9,6 +9,7 @@ use Rattle.sift_base.specs.Units.{has}
 use Rattle.sift_base.specs.laws.Counts.{count-cons, count-no, count-yes}
 use Rattle.sift_base.specs.laws.Others.{count-others-<, times_in, times_in-ascending}
 use Rattle.sift_base.specs.laws.Ranges.{has-range, range-ascends}
+use Rattle.sift_base.specs.laws.ReadBack.{or_false}
 use Rattle.sift_byz.specs.declared.plan.Lie.{Lie}
 use Rattle.sift_byz.specs.Lawful.{BreaksFew}
 use Rattle.sift_byz.specs.Plan.{LieData, lie_of, stands_last, teller_count, tells_some}
@@ -23,11 +24,6 @@ stands_last-at u (v ∷ []) zero d long = refl
 stands_last-at u (v ∷ []) (suc i) d long = absurd (omega arith)
 stands_last-at u (v ∷ w ∷ rest) zero d long = absurd (omega arith)
 stands_last-at u (v ∷ w ∷ rest) (suc i) d long = stands_last-at u (w ∷ rest) i d (omega arith)
-
--- a choice between one thing and nothing
-or_false : (b : Bool) → (b || false) ≡ b
-or_false true = refl
-or_false false = refl
 
 -- with one lie more, its last unit tells as well
 tells_some-push : (lies : List LieData) (lie : LieData) (u : ℕ) → tells_some (lies ++ lie ∷ []) u ≡ (tells_some lies u || stands_last u lie.path)

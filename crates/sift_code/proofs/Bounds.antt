@@ -5,17 +5,17 @@ use Rattle.std.proofs.Math.ListN.{drop_of_length-le}
 use Rattle.std.proofs.lemmas.Bool.{cases_lt}
 use Rattle.std.proofs.Math.Nat.{le-mul_of_pos_right}
 use Rattle.std.proofs.lemmas.List.{length-append}
+use Rattle.std.proofs.lemmas.Option.{slice_get_within}
+use Rattle.std.proofs.Math.Seq.{take-append_seam}
 use Rattle.sift_code.specs.declared.instr.Instr.{Instr}
 use Rattle.sift_code.specs.declared.instr.Instr.TheVariants.{Begin, End}
 use Rattle.sift_code.specs.Enclosing.{enclosing}
 use Rattle.sift_code.specs.Bound.{product, sum_within, bound_of, kept, kept_limit}
 use Rattle.sift_code.specs.Kept.{rounds_behind, rounds_at, bound_before, products_outside}
+use Rattle.sift_code.specs.Refusal.{Program, IsSound}
 use Rattle.sift_code.specs.laws.Enclosing.{IsNoBrace}
 use Rattle.sift_code.proofs.Costs.{IsBraced, drop_here, nested, nested_here}
 use Rattle.sift_code.proofs.Sound.{at_place, braced, uncrowded}
-use Rattle.sift_code.specs.Refusal.{Program, IsSound}
-use Rattle.std.proofs.lemmas.Option.{slice_get_within}
-use Rattle.std.proofs.Math.Seq.{take-append_seam}
 
 -- ---- arithmetic that stops at the limit
 

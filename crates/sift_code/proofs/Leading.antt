@@ -11,12 +11,12 @@ use Rattle.sift_code.specs.Enclosing.{enclosing}
 use Rattle.sift_code.specs.Heights.{height_at}
 use Rattle.sift_code.specs.Refusal.{Program, IsSound}
 use Rattle.sift_code.specs.Ends.{Fits}
+use Rattle.sift_code.specs.Work.{Agrees, AreGoing, starts_of}
 use Rattle.sift_code.specs.laws.Enclosing.{opened_before}
-use Rattle.sift_code.proofs.Costs.{head0, tail0, cost_step, costs, costs_here, nested_here, between, past_end}
 use Rattle.sift_code.specs.laws.Heights.{height_here}
+use Rattle.sift_code.proofs.Costs.{head0, tail0, cost_step, costs, costs_here, nested_here, between, past_end}
 use Rattle.sift_code.proofs.Remaining.{remaining, remaining_none, remaining_begin, another_round}
 use Rattle.sift_code.proofs.Sound.{braced, filled, named, same_round, jumpz_lands, jump_lands}
-use Rattle.sift_code.specs.Work.{Agrees, AreGoing, starts_of}
 use Rattle.sift_code.proofs.Progress.{Leads, left_of, present, on, push, combine, middle, store, put, jump}
 
 module _ (program : Program) (sound : IsSound program) (inputs : Inputs) (fits : Fits inputs program.limits) where

@@ -3,6 +3,7 @@ use Rattle.std.proofs.Common.{◌≡◌, ℕ, ◌+◌, ◌-◌, ◌<◌, ◌≤�
 use Rattle.std.specs.Prelude.{slice_get, slice_set, slice_index, slice_index_or, ◌≢◌, ◌⊎◌, ◌==◌, if◌then◌else◌, max}
 use Rattle.std.proofs.lemmas.Bool.Decides.{eqb_tells}
 use Rattle.std.proofs.lemmas.List.{get_or-set_same, get_or-set_other, length-set, length-drop}
+use Rattle.std.proofs.lemmas.Option.{slice_get_within}
 use Rattle.sift_code.specs.declared.instr.Instr.{Instr}
 use Rattle.sift_code.specs.declared.instr.Instr.TheVariants.{JumpZ, Jump, Begin, End}
 use Rattle.sift_code.specs.declared.walk.Brought.{Brought}
@@ -13,10 +14,9 @@ use Rattle.sift_code.specs.Heights.{Arrival, Trail, trail_at, height_at, height_
 use Rattle.sift_code.specs.Refusal.{IsBadJump, IsBadJumpAt, IsBadTarget, IsUnderflow, IsUnderflowAt, IsTooDeep, IsTallAt, stack_limit}
 use Rattle.sift_code.specs.Walk.{joined, summary, behind, AreBrought, IsAt}
 use Rattle.sift_code.specs.laws.Enclosing.{IsNoBrace, enclosing_here, opened_plain}
+use Rattle.sift_code.specs.laws.Heights.{trail_here, height_here}
 use Rattle.sift_code.proofs.Tables.{all_written}
 use Rattle.sift_code.proofs.Walks.{read_height, read_brought}
-use Rattle.std.proofs.lemmas.Option.{slice_get_within}
-use Rattle.sift_code.specs.laws.Heights.{trail_here, height_here}
 
 -- ---- heights
 

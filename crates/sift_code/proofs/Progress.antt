@@ -13,8 +13,8 @@ use Rattle.sift_code.specs.Heights.{Trail, trail_at, height_at, height_after, ne
 use Rattle.sift_code.specs.Refusal.{Program, IsSound}
 use Rattle.sift_code.specs.Ends.{Fits}
 use Rattle.sift_code.specs.Work.{Agrees, AreGoing, starts_of}
-use Rattle.sift_code.proofs.Costs.{head0, tail0, cost_step, costs, costs_here, nested, nested_here, between}
 use Rattle.sift_code.specs.laws.Heights.{height_here}
+use Rattle.sift_code.proofs.Costs.{head0, tail0, cost_step, costs, costs_here, nested, nested_here, between}
 use Rattle.sift_code.proofs.Remaining.{remaining, remaining_more, remaining_falls}
 use Rattle.sift_code.proofs.Sound.{braced, filled, named, Lands}
 

@@ -9,8 +9,8 @@ use Rattle.sift_code.specs.Enclosing.{enclosing}
 use Rattle.sift_code.specs.Heights.{trail_at, height_at, height_after, pops}
 use Rattle.sift_code.specs.Refusal.{Program, IsBadTarget, IsBadJumpAt, IsUnequalEnd, IsUnequalRound, IsUnderflowAt, IsTallAt, IsCrowdedAt, IsBadOperandAt, IsFree, IsSound, stack_limit, loop_limit}
 use Rattle.sift_code.specs.laws.Enclosing.{same_enclosing}
-use Rattle.sift_code.proofs.Costs.{IsBraced}
 use Rattle.sift_code.specs.laws.Heights.{same_number, Carries, jumpz_carries, jump_carries}
+use Rattle.sift_code.proofs.Costs.{IsBraced}
 
 -- a jump may go there, and this is the height there
 pub record Lands (code : List Instr) (p to height : ℕ) : Type 0 where

@@ -4,10 +4,10 @@ use Rattle.std.proofs.lemmas.List.{length-replicate}
 use Rattle.sift_code.specs.Machine.{Inputs, local_count, start_state}
 use Rattle.sift_code.specs.Bound.{bound_of}
 use Rattle.sift_code.specs.Ends.{Fits, RunsTo}
-use Rattle.sift_code.proofs.lemmas.Ending.{sound_ends}
 use Rattle.sift_lang.specs.Tree.{TaskTree}
 use Rattle.sift_lang.specs.Meaning.{State, after_all}
 use Rattle.sift_lang.specs.Sound.{Bounds, IsSound}
+use Rattle.sift_code.proofs.lemmas.Ending.{sound_ends}
 use Rattle.sift_lang.specs.laws.States.{HasSizes}
 use Rattle.sift_compile.specs.Code.{task_code, task_program}
 use Rattle.sift_compile.specs.Correct.{meaning_of, Means}

@@ -6,9 +6,9 @@ use Rattle.sift_code.specs.declared.instr.Instr.TheVariants.{JumpZ, Jump}
 use Rattle.sift_code.specs.Enclosing.{enclosing}
 use Rattle.sift_code.specs.Heights.{Arrival, trail_at, brought_to, followed}
 use Rattle.sift_code.specs.Refusal.{Program, IsBadTarget, IsFree, stack_limit}
-use Rattle.sift_code.specs.laws.Heights.{trail_here}
 use Rattle.sift_lang.specs.Tree.{Term}
 use Rattle.sift_lang.specs.Sound.{need}
+use Rattle.sift_code.specs.laws.Heights.{trail_here}
 use Rattle.sift_compile.specs.Code.{term_code}
 use Rattle.sift_compile.proofs.Stands.{Stands}
 use Rattle.sift_compile.proofs.Arrivals.{empty_at, IsClear, clear_meets, clear_quiet, behind_empty, Grown}

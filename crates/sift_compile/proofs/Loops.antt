@@ -3,9 +3,9 @@ use Rattle.std.proofs.Common.{◌≡◌, ℕ, ◌+◌, List, [], ◌∷◌, ◌+
 use Rattle.sift_code.specs.declared.instr.Instr.{Instr}
 use Rattle.sift_code.specs.declared.instr.Instr.TheVariants.{Begin, End}
 use Rattle.sift_code.specs.Enclosing.{opened, opened_by, enclosing}
-use Rattle.sift_code.specs.laws.Enclosing.{enclosing_here}
 use Rattle.sift_lang.specs.Tree.{Term, number, local, sense, this_frame, last_frame, minus, binary, middle, Statement, bind, assign, output, choose, choose_else, repeat, Block, end, step}
 use Rattle.sift_lang.specs.Sound.{locals_after}
+use Rattle.sift_code.specs.laws.Enclosing.{enclosing_here}
 use Rattle.sift_compile.specs.Code.{term_code, choose_code, choose_else_code, statement_code, block_code}
 use Rattle.sift_compile.proofs.Stands.{Stands, stands_front, stands_back, stands_on, stands_here, stands_next}
 use Rattle.sift_compile.proofs.Matched.{IsPlain, IsMatched, closes, plain_operator, matched_block}

@@ -6,10 +6,10 @@ use Rattle.sift_code.specs.declared.instr.Instr.TheVariants.{JumpZ, Jump, Begin,
 use Rattle.sift_code.specs.Enclosing.{enclosing}
 use Rattle.sift_code.specs.Heights.{Trail, trail_at, height_at, followed, pops, pushes, height_after}
 use Rattle.sift_code.specs.Refusal.{Program, IsBadOperandAt, IsUnequalRound, stack_limit, loop_limit}
-use Rattle.sift_code.specs.laws.Enclosing.{enclosing_here}
-use Rattle.sift_code.specs.laws.Heights.{trail_here}
 use Rattle.sift_lang.specs.Tree.{Term}
 use Rattle.sift_lang.specs.Sound.{need}
+use Rattle.sift_code.specs.laws.Enclosing.{enclosing_here}
+use Rattle.sift_code.specs.laws.Heights.{trail_here}
 use Rattle.sift_compile.specs.Code.{term_code, behind, choose_code, choose_else_code}
 use Rattle.sift_compile.proofs.Stands.{stands_front, stands_back, stands_on, stands_here, stands_next, stands_behind}
 use Rattle.sift_compile.proofs.Matched.{IsMatched, closes}

@@ -11,9 +11,9 @@ use Rattle.sift_code.specs.Enclosing.{enclosing}
 use Rattle.sift_code.specs.Heights.{Arrival, Trail, trail_at, brought_to, height_at}
 use Rattle.sift_code.specs.Refusal.{Program, IsBadJumpAt, IsUnequal, IsUnequalEnd, IsUnderflowAt, IsTooDeep, IsTallAt, IsCrowdedAt, IsBadOperandAt, IsFree, loop_limit}
 use Rattle.sift_code.specs.Refusal as Code
-use Rattle.sift_code.specs.laws.Enclosing.{enclosing_here}
 use Rattle.sift_lang.specs.Tree.{Term, number, local, sense, this_frame, last_frame, minus, binary, middle, Statement, bind, assign, output, choose, choose_else, repeat, Block, end, step, TaskTree}
 use Rattle.sift_lang.specs.Sound.{NamesWithin, Bounds, IsSoundTerm, IsSoundStatement, IsSoundBlock, IsSound, locals_after, open_repeats, open_repeats_in}
+use Rattle.sift_code.specs.laws.Enclosing.{enclosing_here}
 use Rattle.sift_compile.specs.Code.{term_code, behind, statement_code, block_code, task_code, task_program}
 use Rattle.sift_compile.proofs.Stands.{Stands, stands_front, stands_back, stands_on, stands_next, stands_behind, stands_whole}
 use Rattle.sift_compile.proofs.Matched.{matched_block}

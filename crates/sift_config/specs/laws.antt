@@ -2,3 +2,4 @@
 pub mod FirstUnits
 pub mod Joining
 pub mod Lists
+pub mod Readers

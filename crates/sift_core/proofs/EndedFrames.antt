@@ -2,22 +2,22 @@
 use Rattle.std.proofs.Common.{◌≡◌, ◌⊎◌, ℕ, ◌+◌, ◌≤◌, inl, inr, ⊎_elim, true, refl, sym, subst, arith}
 use Rattle.sift_base.specs.Units.{has}
 use Rattle.sift_buffer.specs.Views.{View}
+use Rattle.sift_buffer.specs.Racks.{ranges_for, core_of, view_at}
+use Rattle.sift_buffer.specs.declared.rack.Rack.{Rack}
 use Rattle.sift_mission.specs.Data.{FlownMission}
 use Rattle.sift_conduct.specs.Acts.{BoardKeeps}
+use Rattle.sift_flight.specs.Flight.{Strays}
+use Rattle.sift_flight.specs.Landing.{LandedFramesAreRound, LawfulCoresHearLawfully, HasPlacesFor}
 use Rattle.sift_unit.specs.Boards.{desk_of, Drives, DriveLaw}
 use Rattle.sift_unit.specs.Down.{StrayLaw}
 use Rattle.sift_unit.specs.Keeping.{HasFlown}
 use Rattle.sift_unit.specs.declared.board.Board.{Board}
-use Rattle.sift_flight.specs.Flight.{Strays}
-use Rattle.sift_flight.specs.Landing.{LandedFramesAreRound, LawfulCoresHearLawfully, HasPlacesFor}
-use Rattle.sift_buffer.specs.Racks.{ranges_for, core_of, view_at}
 use Rattle.sift_core.specs.Machines.{Flies, IsFlying, HasTurnedIn, board_at, accounts_at}
 use Rattle.sift_core.specs.Ended.{EndedFramesAreRound}
 use Rattle.sift_core.specs.declared.machine.Machine.{Machine}
-use Rattle.sift_buffer.specs.declared.rack.Rack.{Rack}
+use Rattle.sift_core.specs.laws.Stages.{keeps_turned}
 use Rattle.sift_core.proofs.MachineSteps.{unit_below}
 use Rattle.sift_core.proofs.Progress.{flyable}
-use Rattle.sift_core.specs.laws.Stages.{keeps_turned}
 
 -- the rack as the port of a unit that has stored these strays
 abbrev pub view_beside : Rack → Strays → ℕ → View

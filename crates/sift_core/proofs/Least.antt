@@ -1,11 +1,11 @@
 -- The least unit among those below a number.
 use Rattle.std.proofs.Common.{◌≡◌, ℕ, ◌*◌, ◌<◌, ◌≤◌, List, true, Option, Some, None, IfSome, IfNone, sym, subst, arith}
 use Rattle.sift_base.specs.Units.{has}
+use Rattle.sift_config.specs.laws.FirstUnits.{low_unit}
 use Rattle.sift_mission.specs.Data.{FlownMission}
 use Rattle.sift_core.specs.Machines.{IsFlying, layout_of, progress_at}
 use Rattle.sift_core.specs.Turns.{IsLeast, AreAllDown}
 use Rattle.sift_core.specs.declared.machine.Machine.{Machine}
-use Rattle.sift_config.specs.laws.FirstUnits.{low_unit}
 use Rattle.sift_core.proofs.MachineSteps.{unit_below}
 
 -- none was found yet, and the bound is the end; or this one, and the bound is its progress

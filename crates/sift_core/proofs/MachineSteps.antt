@@ -16,21 +16,21 @@ use Rattle.sift_buffer.specs.Laws.{EventsKeepLawful}
 use Rattle.sift_buffer.specs.Ledgers.{conduct_in}
 use Rattle.sift_buffer.specs.Reaches.{Reaches}
 use Rattle.sift_buffer.specs.Views.{View}
+use Rattle.sift_buffer.specs.Crews.{core_by, ledger_at, with_strays}
+use Rattle.sift_buffer.specs.Following.{none_more}
+use Rattle.sift_buffer.specs.Racks.{Follows, IsChosen, Stands, ranges_for, core_of, view_of, view_at}
+use Rattle.sift_buffer.specs.declared.rack.Rack.{Rack}
+use Rattle.sift_config.specs.laws.FirstUnits.{unit_low}
 use Rattle.sift_mission.specs.Data.{FlownMission}
+use Rattle.sift_flight.specs.Flight.{Strays, no_strays}
 use Rattle.sift_unit.specs.Boards.{desk_of, Drives, IsPortOf}
 use Rattle.sift_unit.specs.Keeping.{KeepsAs}
 use Rattle.sift_unit.specs.Stepping.{Steps}
 use Rattle.sift_unit.specs.declared.board.Board.{Board}
 use Rattle.sift_unit.specs.declared.stepped.Stepped.{Stepped}
-use Rattle.sift_flight.specs.Flight.{Strays, no_strays}
-use Rattle.sift_buffer.specs.Crews.{core_by, ledger_at, with_strays}
-use Rattle.sift_buffer.specs.Following.{none_more}
-use Rattle.sift_buffer.specs.Racks.{Follows, IsChosen, Stands, ranges_for, core_of, view_of, view_at}
 use Rattle.sift_core.specs.Machines.{Flies, IsFlying, board_at, layout_of}
 use Rattle.sift_core.specs.Steps.{StepsUnit}
 use Rattle.sift_core.specs.declared.machine.Machine.{Machine}
-use Rattle.sift_buffer.specs.declared.rack.Rack.{Rack}
-use Rattle.sift_config.specs.laws.FirstUnits.{unit_low}
 use Rattle.sift_core.proofs.Others.{others_stay, reached_lawful}
 
 -- the unit is one of the rack's

@@ -13,18 +13,18 @@ use Rattle.sift_buffer.specs.Core.{Core}
 use Rattle.sift_buffer.specs.Tables.{ranges_of}
 use Rattle.sift_buffer.specs.Lawful.{Lawful}
 use Rattle.sift_buffer.specs.Laws.{FreshIsLawful}
+use Rattle.sift_buffer.specs.Racks.{IsNewRack, ranges_for, core_of, view_at}
+use Rattle.sift_config.specs.laws.FirstUnits.{unit_low, low_unit}
 use Rattle.sift_mission.specs.Data.{FlownMission, MissionData}
 use Rattle.sift_mission.specs.Flown.{flown}
-use Rattle.sift_unit.specs.Keeping.{IsFresh}
 use Rattle.sift_mission.specs.PartsFit.{PartsFit}
 use Rattle.sift_mission.specs.laws.Configs.{units_fit}
+use Rattle.sift_flight.specs.Flight.{no_strays}
+use Rattle.sift_unit.specs.Keeping.{IsFresh}
 use Rattle.sift_unit.specs.Boards.{IsNewBoard, NewBoardLaw, IsPortOf}
 use Rattle.sift_unit.specs.declared.board.Board.{Board}
-use Rattle.sift_flight.specs.Flight.{no_strays}
-use Rattle.sift_buffer.specs.Racks.{IsNewRack, ranges_for, core_of, view_at}
 use Rattle.sift_core.specs.Machines.{Flies, AreNewBoards, IsNewMachine}
 use Rattle.sift_core.specs.declared.machine.Machine.{Machine}
-use Rattle.sift_config.specs.laws.FirstUnits.{unit_low, low_unit}
 
 -- one board more
 pub boards_push : (m : FlownMission) (n u : ℕ) (xs : List Board) (b : Board) → AreNewBoards m n xs → u ≡ n → IsNewBoard m u b → AreNewBoards m (n + 1)

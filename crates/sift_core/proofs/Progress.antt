@@ -6,7 +6,10 @@ use Rattle.sift_base.specs.Units.{has}
 use Rattle.sift_base.specs.declared.layout.Layout.{Layout}
 use Rattle.sift_buffer.specs.Conduct.{Conduct}
 use Rattle.sift_buffer.specs.Lawful.{HasStage}
+use Rattle.sift_buffer.specs.Racks.{ranges_for, core_of, conduct_at, view_at, Stands}
+use Rattle.sift_config.specs.laws.FirstUnits.{low_unit}
 use Rattle.sift_mission.specs.Data.{FlownMission}
+use Rattle.sift_flight.specs.Flight.{no_strays}
 use Rattle.sift_unit.specs.Desk.{Desk}
 use Rattle.sift_unit.specs.Passing.{distance}
 use Rattle.sift_unit.specs.Boards.{desk_of, Drives}
@@ -15,17 +18,14 @@ use Rattle.sift_unit.specs.Stepping.{Steps}
 use Rattle.sift_unit.specs.declared.board.Board.{Board}
 use Rattle.sift_unit.specs.declared.stepped.Stepped.{Stepped}
 use Rattle.sift_unit.specs.declared.stepped.Stepped.TheVariants.{Moved, NotYet, Turned, Landed}
-use Rattle.sift_flight.specs.Flight.{no_strays}
-use Rattle.sift_buffer.specs.Racks.{ranges_for, core_of, conduct_at, view_at, Stands}
 use Rattle.sift_core.specs.Machines.{IsFlying, HasTurnedIn, board_at, layout_of, progress_at, distances}
 use Rattle.sift_core.specs.Steps.{StepsUnit, IsWaiting}
 use Rattle.sift_core.specs.Turns.{IsAloft, IsLeast}
 use Rattle.sift_core.specs.declared.machine.Machine.{Machine}
-use Rattle.sift_config.specs.laws.FirstUnits.{low_unit}
+use Rattle.sift_core.specs.laws.Stages.{end_low, keeps_flying, not_left, unfinished_low}
 use Rattle.sift_core.proofs.MachineSteps.{unit_below}
 use Rattle.sift_core.proofs.Others.{others_stay}
 use Rattle.sift_core.proofs.Lists.{sums}
-use Rattle.sift_core.specs.laws.Stages.{end_low, keeps_flying, not_left, unfinished_low}
 
 -- a board of a list that has one
 pub first_of : (xs : List Board) (u : ℕ) → u < length xs → Board

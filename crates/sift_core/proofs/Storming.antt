@@ -10,28 +10,28 @@ use Rattle.sift_base.specs.declared.layout.Layout.{Layout}
 use Rattle.sift_buffer.specs.Conduct.{Stray}
 use Rattle.sift_buffer.specs.Ranges.{IsCell}
 use Rattle.sift_buffer.specs.Tables.{ranges_of}
-use Rattle.sift_mission.specs.Data.{MissionData}
-use Rattle.sift_mission.specs.Flown.{flown}
+use Rattle.sift_buffer.specs.Ledgers.{conduct_in}
+use Rattle.sift_buffer.specs.Crews.{ledger_at, with_strays}
+use Rattle.sift_buffer.specs.Racks.{ranges_for}
+use Rattle.sift_buffer.specs.declared.rack.Rack.{Rack}
+use Rattle.sift_config.specs.laws.FirstUnits.{low_unit, unit_low}
 use Rattle.sift_rogue.specs.Storms.{Call, Started, Shoots, sifted, stray_of, StormsBy}
 use Rattle.sift_rogue.specs.declared.act.Shot.{Shot}
+use Rattle.sift_mission.specs.Data.{MissionData}
+use Rattle.sift_mission.specs.Flown.{flown}
 use Rattle.sift_flight.specs.Flight.{Strays, no_strays, IsRound}
 use Rattle.sift_flight.specs.Told.{told}
 use Rattle.sift_flight.specs.declared.flight.Flight.{Flight}
 use Rattle.sift_unit.specs.declared.stepped.Stepped.{Stepped}
 use Rattle.sift_unit.specs.declared.stepped.Stepped.TheVariants.{Moved, NotYet, Turned, Landed}
-use Rattle.sift_buffer.specs.Ledgers.{conduct_in}
-use Rattle.sift_buffer.specs.Crews.{ledger_at, with_strays}
-use Rattle.sift_buffer.specs.Racks.{ranges_for}
-use Rattle.sift_buffer.specs.declared.rack.Rack.{Rack}
 use Rattle.sift_core.specs.Machines.{Flies, IsFlying, HasTurnedIn, layout_of, progress_at}
 use Rattle.sift_core.specs.Steps.{StepsUnit, Stores}
 use Rattle.sift_core.specs.Courses.{AreAllLeft, Course, IsCalled, BeginsStorm, Spends, calls_of, course, storm_at}
 use Rattle.sift_core.specs.Storms.{CarriesOn, FliesByRogues, HasMadeCalls, HaveMadeCalls, AreLeft, IsLeft, IsRoundByRogues, IsUnderWay}
 use Rattle.sift_core.specs.Turns.{AreAllDone, IsAloft, IsDown, end_in}
 use Rattle.sift_core.specs.declared.machine.Machine.{Machine}
-use Rattle.sift_config.specs.laws.FirstUnits.{low_unit, unit_low}
-use Rattle.sift_core.proofs.Progress.{flyable, others_progress, step_comes}
 use Rattle.sift_core.specs.laws.Stages.{end_low}
+use Rattle.sift_core.proofs.Progress.{flyable, others_progress, step_comes}
 
 -- no option is both
 none_some : {A B : Type 0} {x : A} → None ≡ Some x → B

@@ -8,9 +8,10 @@ use Rattle.std.specs.List.{sum_by}
 use Rattle.sift_base.specs.Draw.{drawn}
 use Rattle.sift_base.specs.Units.{has}
 use Rattle.sift_buffer.specs.Conduct.{Stray}
+use Rattle.sift_config.specs.laws.FirstUnits.{low_unit, unit_low}
+use Rattle.sift_rogue.specs.Storms.{Call, Started, Shoots, sifted, stray_of}
 use Rattle.sift_mission.specs.Data.{MissionData, FlownMission}
 use Rattle.sift_mission.specs.Flown.{flown}
-use Rattle.sift_rogue.specs.Storms.{Call, Started, Shoots, sifted, stray_of}
 use Rattle.sift_unit.specs.Boards.{desk_of}
 use Rattle.sift_unit.specs.Passing.{distance}
 use Rattle.sift_unit.specs.declared.stepped.Stepped.{Stepped}
@@ -22,7 +23,6 @@ use Rattle.sift_core.specs.Courses.{Course, IsCalled, IsUncalled, Begins, Spends
 use Rattle.sift_core.specs.Storms.{IsUnderWay}
 use Rattle.sift_core.specs.Turns.{IsDrawn, AreAllDone, AreAllDown, IsAloft, IsFirstLeft, IsLeast, Tries, StepsItself, SpendsItself, Waits, GivesAway, TakesTurn, TurnsAt, AfterTurns, FliesInOrder}
 use Rattle.sift_core.specs.declared.machine.Machine.{Machine}
-use Rattle.sift_config.specs.laws.FirstUnits.{low_unit, unit_low}
 use Rattle.sift_core.proofs.Progress.{flyable, step_near, waits_in_place, least_goes}
 
 -- a mission has as many units as the machine

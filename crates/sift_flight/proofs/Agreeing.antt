@@ -4,9 +4,9 @@ use Rattle.std.proofs.lemmas.Bool.{cases_Bool, ne_eqb}
 use Rattle.std.proofs.lemmas.Bool.Decides.{eqb_tells}
 use Rattle.sift_base.specs.Units.{has}
 use Rattle.sift_base.specs.declared.slot.Slot.TheVariants.{Sense, RelaySense, Report, RelayReport}
+use Rattle.sift_config.specs.Config.{reader_of}
 use Rattle.sift_agree.specs.Agreement.{RelaysWell}
 use Rattle.sift_agree.specs.laws.Taking.{faulty_unit_is_agreed_on, working_unit_is_agreed_on}
-use Rattle.sift_config.specs.Config.{reader_of}
 use Rattle.sift_mission.specs.Data.{FlownMission}
 use Rattle.sift_conduct.specs.Conduct.{report_in, report_of}
 use Rattle.sift_flight.specs.Flight.{Flight, Strays}

@@ -6,8 +6,8 @@ use Rattle.std.proofs.lemmas.Bool.{and_parts}
 use Rattle.sift_base.specs.Units.{has, holds}
 use Rattle.sift_exec.specs.Conviction.{everyone_in, nobody}
 use Rattle.sift_exec.specs.declared.catches.Catches.{Catches}
-use Rattle.sift_conduct.specs.Conduct.{UnitFrame, caught, Conduct}
 use Rattle.sift_exec.specs.laws.Everyone.{holds-everyone}
+use Rattle.sift_conduct.specs.Conduct.{UnitFrame, caught, Conduct}
 
 -- where one of three tests is passed, what follows from each follows
 one_of : (a b c : Bool) (P : Type 0) → ((a || b) || c) ≡ true → (a ≡ true → P) → (b ≡ true → P) → (c ≡ true → P) → P

@@ -13,9 +13,9 @@ use Rattle.sift_buffer.specs.Ranges.{shared_words, place}
 use Rattle.sift_buffer.specs.Conduct.{Saying, Hearing, saying, hearing}
 use Rattle.sift_buffer.specs.Lawful.{Lawful, IsLastSaid, silent, last}
 use Rattle.sift_mission.specs.Slots.{calls, stamp_of, heard_at}
+use Rattle.sift_mission.specs.laws.Frames.{frame_low}
 use Rattle.sift_flight.specs.Calm.{Calm, four_units, layout_of, mission_of}
 use Rattle.sift_flight.specs.CalmFlight.{word_in, acts_of, ranges_of, cell_of, shared_word, core_of}
-use Rattle.sift_flight.proofs.FrameActs.{frame_low}
 use Rattle.sift_flight.proofs.CalmStages.{IsPlain, in_range, flies_on}
 
 module _ (c : Calm) (plain : IsPlain c) where

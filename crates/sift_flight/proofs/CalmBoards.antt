@@ -4,16 +4,16 @@ use Rattle.std.proofs.lemmas.Bool.{cases_Bool}
 use Rattle.sift_base.specs.Units.{has}
 use Rattle.sift_base.specs.declared.slot.Slot.{Slot}
 use Rattle.sift_buffer.specs.Conduct.{hearing}
+use Rattle.sift_buffer.specs.Lawful.{Lawful}
 use Rattle.sift_mission.specs.Slots.{is_slot, calls, stamp_of, heard_at}
+use Rattle.sift_mission.specs.Fits.{Fits}
+use Rattle.sift_mission.specs.laws.Calls.{call_of}
 use Rattle.sift_conduct.specs.Conduct.{Places, UnitFrame, unit_frame, own_word, said_of, Conduct}
 use Rattle.sift_conduct.specs.Frames.{FrameConduct}
 use Rattle.sift_conduct.specs.Acts.{Turns, ActsAre, BoardKeeps, said_places, heard_places, unit_flight, stamp_and_moment}
-use Rattle.sift_mission.specs.Fits.{Fits}
-use Rattle.sift_mission.specs.laws.Calls.{call_of}
 use Rattle.sift_flight.specs.Landing.{HaveLanded}
 use Rattle.sift_flight.specs.Calm.{Calm, four_units, mission_of}
 use Rattle.sift_flight.specs.CalmFlight.{word_in, account_of, acts_of, ranges_of, core_of}
-use Rattle.sift_buffer.specs.Lawful.{Lawful}
 use Rattle.sift_flight.proofs.Landed.{lawful_cores_hear_lawfully}
 use Rattle.sift_flight.proofs.CalmStages.{IsPlain}
 use Rattle.sift_flight.proofs.CalmActs.{said_act, lawful}

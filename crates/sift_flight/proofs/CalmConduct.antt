@@ -6,18 +6,19 @@ use Rattle.std.proofs.lemmas.Bool.{cases_Bool, and_parts}
 use Rattle.sift_base.specs.Units.{has, holds, has_bit, bits_of}
 use Rattle.sift_base.specs.declared.slot.Slot.{Slot}
 use Rattle.sift_base.specs.declared.slot.Slot.TheVariants.{Clock, Sense, RelaySense, Out, Report, RelayReport}
+use Rattle.sift_base.specs.laws.Others.{told_apart}
 use Rattle.sift_vote.specs.Majority.{agreed_of}
-use Rattle.sift_agree.specs.Agreement.{taken}
-use Rattle.sift_exec.specs.Conviction.{nobody, everyone_in, next_by}
 use Rattle.sift_config.specs.Config.{reader_of}
 use Rattle.sift_clock.specs.Correction.{corrected_offset}
+use Rattle.sift_config.specs.laws.Readers.{reader_in}
+use Rattle.sift_agree.specs.Agreement.{taken}
+use Rattle.sift_exec.specs.Conviction.{nobody, everyone_in, next_by}
+use Rattle.sift_exec.specs.laws.Everyone.{holds-everyone}
 use Rattle.sift_mission.specs.Slots.{executors, calls}
-use Rattle.sift_mission.specs.laws.Calls.{Call, call_of, call_is, told_apart}
+use Rattle.sift_mission.specs.laws.Calls.{Call, call_of, call_is}
 use Rattle.sift_conduct.specs.Conduct.{input_of, polled, poll_catches, relay_catches, clock_catches, reading_by, own_word, Conduct}
 use Rattle.sift_flight.specs.Calm.{Calm, four_units, mission_of}
 use Rattle.sift_flight.specs.CalmFlight.{word_in}
-use Rattle.sift_flight.proofs.Configs.{reader_in}
-use Rattle.sift_exec.specs.laws.Everyone.{holds-everyone}
 use Rattle.sift_flight.proofs.CalmBoards.{heard_by, frame_in}
 
 -- one more unit of a list

@@ -2,18 +2,18 @@
 use Rattle.std.proofs.Common.{false, zero, suc, inl, inr, ◌≡◌, ℕ, ◌+◌, ◌<◌, ◌≤◌, List, [], ◌∷◌, length, true, refl, ap, arith, ltb-true, slice_index, subst}
 use Rattle.std.specs.List.{filter}
 use Rattle.std.proofs.lemmas.Int.{ints}
+use Rattle.std.specs.Prelude.{not, nat_lt, ◌&&◌, Some, None, if◌then◌else◌}
+use Rattle.std.proofs.lemmas.Bool.{cases_Bool, lt-ltb}
 use Rattle.sift_base.specs.Units.{has, HasMargin}
 use Rattle.sift_base.specs.declared.slot.Slot.{Slot}
 use Rattle.sift_base.specs.declared.slot.Slot.TheVariants.{Clock, Sense, RelaySense, Out, Report, RelayReport}
 use Rattle.sift_base.specs.laws.ReadBack.{false_last}
-use Rattle.std.specs.Prelude.{not, nat_lt, ◌&&◌, Some, None, if◌then◌else◌}
-use Rattle.std.proofs.lemmas.Bool.{cases_Bool, lt-ltb}
 use Rattle.sift_mission.specs.Slots.{is_slot, turned_by}
 use Rattle.sift_mission.specs.Data.{IsConfigOf}
 use Rattle.sift_mission.specs.Fits.{Fits, IsNumbered, IsRead, is_caught_in, HasExecutors}
+use Rattle.sift_mission.specs.Premises.{IsFlyable}
 use Rattle.sift_flight.specs.Figures.{config_at, HasMarginAt}
 use Rattle.sift_flight.specs.Flight.{flight_of}
-use Rattle.sift_mission.specs.Premises.{IsFlyable}
 use Rattle.sift_flight.specs.Calm.{Calm, four_units, due_in, heard_in, mission_of}
 use Rattle.sift_flight.specs.CalmFlight.{account_of, core_of}
 use Rattle.sift_flight.proofs.CalmStages.{IsPlain}

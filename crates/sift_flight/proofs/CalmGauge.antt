@@ -7,15 +7,15 @@ use Rattle.sift_base.specs.declared.slot.Slot.{Slot}
 use Rattle.sift_base.specs.declared.slot.Slot.TheVariants.{Clock, Sense, RelaySense, Out, Report, RelayReport}
 use Rattle.sift_vote.specs.Majority.{agreed_of}
 use Rattle.sift_mission.specs.Slots.{is_slot, executors}
-use Rattle.sift_conduct.specs.Conduct.{input_of}
 use Rattle.sift_mission.specs.Fits.{Fits, IsNumbered, SameAt}
+use Rattle.sift_conduct.specs.Conduct.{input_of}
 use Rattle.sift_flight.specs.Calm.{four_units, due_in, heard_in, mission_of}
 use Rattle.sift_flight.specs.CalmFlight.{word_in}
+use Rattle.sift_flight.specs.Calms.{FliesCalmly, gauge_kind, gauge}
 use Rattle.sift_flight.proofs.CalmStages.{IsPlain}
 use Rattle.sift_flight.proofs.CalmBoards.{IsCalm, calm_lawful, calm_landed}
 use Rattle.sift_flight.proofs.CalmConduct.{four, place, HasFigures, conduct_by, own_words}
 use Rattle.sift_flight.proofs.CalmFits.{four_are_below, fits_by, flyable_by, has_margin}
-use Rattle.sift_flight.specs.Calms.{FliesCalmly, gauge_kind, gauge}
 use Rattle.sift_flight.proofs.CalmBoards.{heard_by, frame_in}
 use Rattle.sift_flight.proofs.GaugeProgram.{one, two, runs}
 

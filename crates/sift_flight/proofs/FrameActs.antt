@@ -1,5 +1,5 @@
 -- Frames of a mission, and the acts of a unit in one of them.
-use Rattle.std.proofs.Common.{◌≡◌, inl, inr, ⊎_elim, ℕ, suc, ◌+◌, ◌*◌, ◌-◌, ◌<◌, ◌≤◌, true, false, nat_lt, Option, Some, None, option_map, sym, refl, ap, subst, arith, ltb-false}
+use Rattle.std.proofs.Common.{◌≡◌, inl, inr, ⊎_elim, ℕ, suc, ◌+◌, ◌*◌, ◌-◌, ◌<◌, ◌≤◌, true, false, nat_lt, Option, Some, None, option_map, sym, refl, ap, arith, ltb-false}
 use Rattle.std.proofs.lemmas.Bool.{cases_Bool, cases_lt}
 use Rattle.std.proofs.lemmas.Option.{none-some, same_Some}
 use Rattle.std.proofs.Math.Nat.{mul-le-mul_left, mul-le-mul_right}
@@ -9,6 +9,7 @@ use Rattle.sift_buffer.specs.Conduct.{Conduct as Acts}
 use Rattle.sift_mission.specs.Data.{FlownMission}
 use Rattle.sift_mission.specs.Slots.{is_slot, turned_by}
 use Rattle.sift_mission.specs.laws.Turning.{before_turning}
+use Rattle.sift_mission.specs.laws.Frames.{frame_low}
 use Rattle.sift_conduct.specs.Acts.{Turns, word_in_hearing, stamp_and_moment}
 
 -- ---- frames
@@ -16,10 +17,6 @@ use Rattle.sift_conduct.specs.Acts.{Turns, word_in_hearing, stamp_and_moment}
 -- a later frame begins at this one's end, or after it
 frame_after : (f d n : ℕ) → f * n + n ≤ (f + suc d) * n
 frame_after f d n = grind (arith)
-
--- the same, for any later frame
-pub frame_low : (n f g : ℕ) → f < g → f * n + n ≤ g * n
-frame_low n f g low = let e : f + suc (g - suc f) ≡ g = omega arith in subst (λ (z : ℕ). f * n + n ≤ z * n) e (frame_after f (g - suc f) n)
 
 -- a stamp lies in one frame alone
 pub same_frame : (n f g s : ℕ) → f * n < s → s ≤ f * n + n → g * n < s → s ≤ g * n + n → f ≡ g
@@ -46,7 +43,7 @@ pub heard_none : (x : Option Hearing) → option_map stamp_and_moment x ≡ None
 heard_none None e = refl
 heard_none (Some x) e = absurd (none-some (x.stamp, x.at) (sym e))
 
--- and one that has turned by a frame turns then or before
+-- a unit that has turned by a frame turned in it or before
 late : (f from : ℕ) → turned_by (Some from) f ≡ true → from ≤ f
 late f from e = elim (cases_Bool (nat_lt f from)) [ inl z ↦ absurd (let w = rw z at e in cc) | inr z ↦ ltb-false f from z ]
 

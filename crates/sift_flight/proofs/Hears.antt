@@ -11,15 +11,16 @@ use Rattle.sift_buffer.specs.Core.{Core}
 use Rattle.sift_buffer.specs.Lawful.{IsFromSayings, IsFromStrays, nothing, said, strayed}
 use Rattle.sift_mission.specs.Data.{FlownMission, IsConfigOf}
 use Rattle.sift_mission.specs.Slots.{is_slot, calls, stamp_of, heard_at, has_turned}
-use Rattle.sift_conduct.specs.Conduct.{Account}
-use Rattle.sift_conduct.specs.Frames.{Flies}
-use Rattle.sift_conduct.specs.Acts.{ActsAre, BoardKeeps, word_in_saying, word_in_hearing}
 use Rattle.sift_mission.specs.Fits.{Fits}
 use Rattle.sift_mission.specs.laws.Silent.{speaks}
 use Rattle.sift_mission.specs.laws.Calls.{call_of}
+use Rattle.sift_mission.specs.laws.Frames.{frame_low}
+use Rattle.sift_conduct.specs.Conduct.{Account}
+use Rattle.sift_conduct.specs.Frames.{Flies}
+use Rattle.sift_conduct.specs.Acts.{ActsAre, BoardKeeps, word_in_saying, word_in_hearing}
 use Rattle.sift_flight.specs.Flight.{IsOfStray, absent, stray}
 use Rattle.sift_flight.specs.Landing.{HaveLanded, UnitsHearByTheEquations}
-use Rattle.sift_flight.proofs.FrameActs.{frame_low, same_frame, never_reached, heard_is, heard_none, left_above, hushed}
+use Rattle.sift_flight.proofs.FrameActs.{same_frame, never_reached, heard_is, heard_none, left_above, hushed}
 
 module _ (m : FlownMission) (r : Ranges) (c : Core) (accounts : ℕ → ℕ → Account) (n f : ℕ) (fits : Fits m) (landed : HaveLanded m r c accounts n) (low : f < n)
     (q : ℕ) (k : Slot) (p : ℕ) (flies : Flies m q f) where

@@ -5,14 +5,14 @@ use Rattle.sift_base.specs.Units.{has}
 use Rattle.sift_program.specs.Program.{ProgramTree}
 use Rattle.sift_program.specs.Ideal.{words_before}
 use Rattle.sift_mission.specs.Data.{FlownMission, IsConfigOf}
+use Rattle.sift_mission.specs.Premises.{IsFlyable, RunsProgram}
 use Rattle.sift_conduct.specs.Frames.{last_of, FrameConduct}
 use Rattle.sift_flight.specs.Flight.{Flight, unit_of, config_of, Strays, IsRound}
 use Rattle.sift_flight.specs.Figures.{Works, lead_of, config_at, HasMarginAt}
-use Rattle.sift_mission.specs.Premises.{IsFlyable, RunsProgram}
 use Rattle.sift_flight.specs.Headline.{agreed_at, shed_at, HeadlineHolds}
+use Rattle.sift_flight.specs.laws.Leading.{lead_works, config_within}
 use Rattle.sift_flight.proofs.Working.{InFrame, Member, member_of}
 use Rattle.sift_flight.proofs.Timing.{next_together}
-use Rattle.sift_flight.specs.laws.Leading.{lead_works, config_within}
 use Rattle.sift_flight.proofs.OneFrame.{outputs, next, next_is, next_good, stays_in, headline_by}
 
 -- the induction's state: the configuration of all working units, and the words before

@@ -8,8 +8,8 @@ pub mod CalmCount
 pub mod CalmFits
 pub mod CalmGauge
 pub mod CalmStages
-pub mod Configs
 pub mod CountProgram
+pub mod Firsts
 pub mod FrameActs
 pub mod GaugeProgram
 pub mod Hears

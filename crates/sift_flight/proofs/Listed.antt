@@ -5,14 +5,14 @@ use Rattle.std.proofs.lemmas.Bool.{cases_lt, le-ltb}
 use Rattle.std.proofs.lemmas.List.{get_or-map, length-map}
 use Rattle.std.proofs.lemmas.List.FromFn.{length-range_with_len}
 use Rattle.sift_base.specs.laws.Ranges.{range-has}
-use Rattle.sift_conduct.specs.Conduct.{account_of}
 use Rattle.sift_mission.specs.Slots.{has_turned, turned_by}
-use Rattle.sift_conduct.specs.declared.account.Account.{Account as TheAccount}
 use Rattle.sift_mission.specs.Parts.{flown_of}
 use Rattle.sift_mission.specs.Premises.{IsFlyable}
 use Rattle.sift_mission.specs.declared.parts.MissionParts.{MissionParts}
-use Rattle.sift_flight.specs.Figures.{Works}
+use Rattle.sift_conduct.specs.Conduct.{account_of}
+use Rattle.sift_conduct.specs.declared.account.Account.{Account as TheAccount}
 use Rattle.sift_conduct.specs.Frames.{frames_before}
+use Rattle.sift_flight.specs.Figures.{Works}
 use Rattle.sift_flight.specs.Told.{IsAccountOf, IsWhole, accounts_of, no_account, told}
 use Rattle.sift_flight.specs.declared.flight.Flight.{Flight as TheFlight}
 

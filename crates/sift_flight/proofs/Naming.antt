@@ -3,10 +3,10 @@ use Rattle.std.proofs.Common.{◌≡◌, inl, inr, ℕ, List, false, not, nat_eq
 use Rattle.std.proofs.lemmas.Bool.{cases_Bool, and_parts}
 use Rattle.sift_base.specs.Units.{has}
 use Rattle.sift_base.specs.declared.slot.Slot.TheVariants.{Sense, RelaySense}
-use Rattle.sift_exec.specs.laws.Everyone.{holds-everyone}
+use Rattle.sift_base.specs.laws.Others.{told_apart}
 use Rattle.sift_config.specs.Config.{reader_of}
+use Rattle.sift_exec.specs.laws.Everyone.{holds-everyone}
 use Rattle.sift_mission.specs.Data.{FlownMission}
-use Rattle.sift_mission.specs.laws.Calls.{told_apart}
 use Rattle.sift_conduct.specs.Conduct.{caught, relay_catches, clock_catches}
 use Rattle.sift_conduct.specs.Frames.{last_of}
 use Rattle.sift_flight.specs.Flight.{Flight, Strays}

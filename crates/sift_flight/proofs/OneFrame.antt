@@ -2,17 +2,18 @@
 use Rattle.std.proofs.Common.{◌≡◌, ℕ, suc, ◌<◌, List, true, false, sym, ◌∙◌, subst, arith}
 use Rattle.std.proofs.lemmas.Grind.{same_number_lists}
 use Rattle.sift_base.specs.Units.{has}
+use Rattle.sift_config.specs.laws.Readers.{reader_in}
 use Rattle.sift_exec.specs.Conviction.{next_by}
 use Rattle.sift_program.specs.Program.{ProgramTree}
 use Rattle.sift_program.specs.Ideal.{ideal_words, words_before}
 use Rattle.sift_mission.specs.Data.{FlownMission, IsConfigOf}
+use Rattle.sift_mission.specs.Premises.{RunsProgram}
 use Rattle.sift_conduct.specs.Conduct.{caught}
 use Rattle.sift_conduct.specs.Frames.{last_of}
 use Rattle.sift_flight.specs.Flight.{Flight, Strays}
 use Rattle.sift_flight.specs.Figures.{Works, lead_of, config_at}
-use Rattle.sift_mission.specs.Premises.{RunsProgram}
 use Rattle.sift_flight.specs.Headline.{agreed_at, shed_at, Headline}
-use Rattle.sift_flight.proofs.Configs.{reader_in}
+use Rattle.sift_flight.specs.laws.Leading.{lead_works}
 use Rattle.sift_flight.proofs.Ideal.{IsStep, ideal_step}
 use Rattle.sift_flight.proofs.Working.{InFrame, Member, works_in, member_of, busy_here, conduct_here}
 use Rattle.sift_flight.proofs.Agreeing.{sensor_own, sensor_same, report_own, report_same}
@@ -20,7 +21,6 @@ use Rattle.sift_flight.proofs.Timing.{leads, skew_within, slack_positive}
 use Rattle.sift_flight.proofs.Voting.{output_is}
 use Rattle.sift_flight.proofs.Naming.{none_named}
 use Rattle.sift_flight.proofs.Removing.{names, next_one, next_exact, stays, next_is_config}
-use Rattle.sift_flight.specs.laws.Leading.{lead_works}
 
 module _ (m : FlownMission) (program : ProgramTree) (strays : Strays) (fl : Flight) (f : ℕ) (runs : RunsProgram m program) (here : InFrame m strays fl f (config_at m fl f))
     (last_is : (u : ℕ) → Works m u f → last_of m (fl.account u) f ≡ words_before program (agreed_at m fl) (shed_at m fl) f) where

@@ -7,12 +7,12 @@ use Rattle.sift_base.specs.Units.{has}
 use Rattle.sift_clock.specs.Distance.{IsWithin}
 use Rattle.sift_skew.proofs.lemmas.Changes.{offsets_change_little}
 use Rattle.sift_mission.specs.Data.{IsConfigOf, FlownMission}
-use Rattle.sift_conduct.specs.Conduct.{Account, reading_by}
 use Rattle.sift_mission.specs.Flown.{flown}
-use Rattle.sift_conduct.specs.Frames.{frame_of, FrameConduct}
-use Rattle.sift_conduct.specs.laws.NextConfigs.{next_is_config}
 use Rattle.sift_mission.specs.Premises.{IsFlyable, PartsMakeItFlyable}
 use Rattle.sift_mission.specs.Slots.{has_turned, turned_by}
+use Rattle.sift_conduct.specs.Conduct.{Account, reading_by}
+use Rattle.sift_conduct.specs.Frames.{frame_of, FrameConduct}
+use Rattle.sift_conduct.specs.laws.NextConfigs.{next_is_config}
 use Rattle.sift_flight.specs.Flight.{Flight, unit_of, Strays, IsRound}
 use Rattle.sift_flight.specs.Told.{AreAccountsOf, IsAccountOf, told}
 use Rattle.sift_flight.specs.Whole.{RoundFlightsAreWhole, RoundFlightsHaveAccounts}

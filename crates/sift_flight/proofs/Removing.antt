@@ -4,8 +4,8 @@ use Rattle.std.specs.List.{filter}
 use Rattle.std.proofs.lemmas.Bool.{cases_Bool, le-leb}
 use Rattle.sift_base.specs.Units.{has, has_bit}
 use Rattle.sift_base.specs.Layout.{least_units}
-use Rattle.sift_base.specs.laws.Sets.{filter_same, passing_ascend}
-use Rattle.sift_base.specs.laws.Counts.{filter_has, has_filter, count-same}
+use Rattle.sift_base.specs.laws.Sets.{passing_ascend}
+use Rattle.sift_base.specs.laws.Counts.{of_filtered, in_filtered, count-same, filter_same}
 use Rattle.sift_exec.specs.Conviction.{everyone_in, is_convicted, kept_by, next_by, IsJust, working_accusers}
 use Rattle.sift_exec.specs.laws.NextConfigs.{next-same}
 use Rattle.sift_exec.proofs.lemmas.Justice.{conviction_holds}
@@ -53,13 +53,13 @@ module _ (m : FlownMission) (strays : Strays) (fl : Flight) (f : ℕ) (us : List
 
     -- a member stays
     pub stays : (u : ℕ) → Member m f us u → has (next_by (names q) us) u ≡ true
-    stays u wu = subst (λ c. has c u ≡ true) (sym next_kept) (has_filter (λ v. not (is_convicted (names q) us v)) us u wu.member (ap not (just.safe u wu.member wu.works)))
+    stays u wu = subst (λ c. has c u ≡ true) (sym next_kept) (in_filtered (λ v. not (is_convicted (names q) us v)) us u wu.member (ap not (just.safe u wu.member wu.works)))
 
     next_config : IsConfigOf m (kept_by (names q) us)
     next_config = record {
       enough = just.enough;
       ascending = passing_ascend (λ v. not (is_convicted (names q) us v)) us here.config.ascending;
-      inside = λ u h. here.config.inside u (filter_has (λ v. not (is_convicted (names q) us v)) us u h).1;
+      inside = λ u h. here.config.inside u (of_filtered (λ v. not (is_convicted (names q) us v)) us u h).1;
     }
 
     -- and it is a configuration

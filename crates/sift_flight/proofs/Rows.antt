@@ -2,18 +2,17 @@
 use Rattle.std.proofs.Common.{◌≡◌, inl, inr, ℕ, [], ◌++◌, map, length, slice_index, true, Some, ℤ, pos, refl, sym, ap, ◌∙◌, arith}
 use Rattle.std.proofs.lemmas.Int.{ints}
 use Rattle.std.proofs.lemmas.Option.{same_Some, none-some}
-use Rattle.sift_base.specs.declared.slot.Slot.TheVariants.{Report}
 use Rattle.std.specs.FinSet as set
-use Rattle.sift_base.specs.Units.{has, holds}
-use Rattle.sift_buffer.specs.Cell.{taken, packed}
-use Rattle.sift_conduct.specs.Frames.{Flies}
 use Rattle.std.specs.List.{Contains}
 use Rattle.std.proofs.lemmas.List.Elements.{Contains-append_cases}
+use Rattle.sift_base.specs.declared.slot.Slot.TheVariants.{Report}
+use Rattle.sift_base.specs.Units.{has, holds}
 use Rattle.sift_base.specs.laws.Sets.{holds-insert}
+use Rattle.sift_buffer.specs.Cell.{taken, packed}
 use Rattle.sift_exec.specs.Conviction.{nobody, everyone_in}
 use Rattle.sift_skew.specs.laws.Leads.{Contains-map, skew_is_unique, slack_is_unique}
 use Rattle.sift_exec.specs.laws.Everyone.{holds-everyone}
-use Rattle.sift_flight.proofs.CalmConduct.{no_report}
+use Rattle.sift_conduct.specs.Frames.{Flies}
 use Rattle.sift_flight.specs.Calm.{Calm, four_units, mission_of, program_of}
 use Rattle.sift_flight.specs.CalmFlight.{account_of, core_of, ranges_of}
 use Rattle.sift_flight.specs.Calms.{FliesCalmly, count, gauge}
@@ -21,6 +20,7 @@ use Rattle.sift_flight.specs.Figures.{Works, IsSkewAt, IsSlackAt}
 use Rattle.sift_flight.specs.Headline.{Headline}
 use Rattle.sift_flight.specs.Flight.{IsOfStray, absent, stray, IsRound}
 use Rattle.sift_flight.specs.Rows.{no_strays, calm_flight, HearingRows, ConfigurationRows, HeadlineRows, RowsHold}
+use Rattle.sift_flight.proofs.CalmConduct.{no_report}
 use Rattle.sift_flight.proofs.CalmCount.{count_flies}
 use Rattle.sift_flight.proofs.CalmGauge.{gauge_flies}
 use Rattle.sift_flight.proofs.Induction.{headline_holds}

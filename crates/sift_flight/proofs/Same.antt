@@ -5,10 +5,10 @@ use Rattle.sift_base.specs.Units.{has}
 use Rattle.sift_base.specs.declared.slot.Slot.{Slot}
 use Rattle.sift_mission.specs.Data.{FlownMission}
 use Rattle.sift_mission.specs.Slots.{calls, stamp_of, has_turned}
-use Rattle.sift_conduct.specs.Conduct.{UnitFrame, unit_frame, own_word, said_of, Conduct}
-use Rattle.sift_conduct.specs.Frames.{last_of, frame_of, FrameConduct, IdleConduct, Flies}
 use Rattle.sift_mission.specs.Fits.{Fits}
 use Rattle.sift_mission.specs.laws.Calls.{call_of}
+use Rattle.sift_conduct.specs.Conduct.{UnitFrame, unit_frame, own_word, said_of, Conduct}
+use Rattle.sift_conduct.specs.Frames.{last_of, frame_of, FrameConduct, IdleConduct, Flies}
 use Rattle.sift_flight.specs.Flight.{Flight, unit_of, config_of, Strays, RoundAt}
 use Rattle.sift_flight.specs.Existence.{StrayHearing, HearsStraysAt}
 

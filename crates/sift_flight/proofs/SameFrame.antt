@@ -6,17 +6,17 @@ use Rattle.sift_base.specs.Units.{has, has_bit, bits_of}
 use Rattle.sift_base.specs.declared.slot.Slot.{Slot}
 use Rattle.sift_base.specs.declared.slot.Slot.TheVariants.{Clock, Sense, RelaySense, Out, Report, RelayReport}
 use Rattle.sift_base.specs.laws.Sets.{same_units}
+use Rattle.sift_base.specs.laws.Ranges.{any-same}
 use Rattle.sift_vote.specs.Majority.{agreed_of, majority_of, differs}
+use Rattle.sift_config.specs.Config.{reader_of}
+use Rattle.sift_clock.specs.Correction.{corrected_offset, reading_of, is_too_far}
 use Rattle.sift_agree.specs.Agreement.{taken}
 use Rattle.sift_exec.specs.Conviction.{everyone_in, next_by}
 use Rattle.sift_exec.specs.declared.catches.Catches.{Catches}
-use Rattle.sift_config.specs.Config.{reader_of}
-use Rattle.sift_clock.specs.Correction.{corrected_offset, reading_of, is_too_far}
 use Rattle.sift_mission.specs.Data.{FlownMission}
 use Rattle.sift_mission.specs.Slots.{executors}
 use Rattle.sift_conduct.specs.Conduct.{Account, UnitFrame, unit_frame, Conduct, poll_catches, relay_catches, clock_catches, report_of, said_of}
 use Rattle.sift_conduct.specs.Frames.{last_of, Flies, IdleConduct}
-use Rattle.sift_conduct.specs.laws.Tests.{any-same}
 use Rattle.sift_flight.specs.Flight.{Flight, config_of, Strays, AreSameAt}
 use Rattle.sift_flight.specs.Existence.{StrayHearing}
 use Rattle.sift_flight.proofs.Same.{AreBothRound, HearAlike, conduct_one, conduct_other, busy_one, idle_one, by_place, say, hear}

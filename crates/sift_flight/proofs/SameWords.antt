@@ -7,8 +7,8 @@ use Rattle.sift_base.specs.Word.{word_of}
 use Rattle.sift_base.specs.Units.{has}
 use Rattle.sift_base.specs.declared.slot.Slot.TheVariants.{Clock, Sense, RelaySense, Out}
 use Rattle.sift_vote.specs.Majority.{agreed_of}
-use Rattle.sift_agree.specs.Agreement.{taken}
 use Rattle.sift_config.specs.Config.{reader_of}
+use Rattle.sift_agree.specs.Agreement.{taken}
 use Rattle.sift_mission.specs.Data.{FlownMission}
 use Rattle.sift_mission.specs.Slots.{executors, is_held}
 use Rattle.sift_mission.specs.laws.Calls.{call_of}

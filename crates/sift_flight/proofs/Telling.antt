@@ -7,8 +7,8 @@ use Rattle.std.specs.List.{Contains}
 use Rattle.std.proofs.lemmas.Bool.{cases_eq, le-leb, leb-true, and_from, and_parts}
 use Rattle.std.proofs.lemmas.Int.{ints, fold-int_max_bounds, fold-int_max_reached, fold-int_min_bounds, fold-int_min_reached}
 use Rattle.std.proofs.lemmas.List.Elements.{All-cons, All-push, Contains-from_at, at_from_Contains}
-use Rattle.sift_base.specs.Units.{HasMargin, faulty_count}
 use Rattle.std.proofs.lemmas.List.{map_more}
+use Rattle.sift_base.specs.Units.{HasMargin, faulty_count}
 use Rattle.sift_clock.specs.Distance.{IsWithin}
 use Rattle.sift_skew.specs.Limits.{offset_limit}
 use Rattle.sift_skew.specs.Figures.{AreInRange, IsHighest, IsLowest, IsSkew, IsSlack}

@@ -4,10 +4,10 @@ use Rattle.std.specs.List.{filter}
 use Rattle.std.proofs.lemmas.Bool.{cases_Bool}
 use Rattle.std.proofs.lemmas.Bool.Decides.{nat_tests}
 use Rattle.sift_base.specs.Units.{has}
-use Rattle.sift_base.specs.laws.Counts.{filter_has, map-same}
-use Rattle.sift_conduct.specs.Conduct.{Account}
+use Rattle.sift_base.specs.laws.Counts.{of_filtered, map-same}
 use Rattle.sift_mission.specs.Data.{FlownMission}
 use Rattle.sift_mission.specs.Premises.{IsFlyable}
+use Rattle.sift_conduct.specs.Conduct.{Account}
 use Rattle.sift_flight.specs.Alike.{AreSameFrame, RoundFlightsAreAlike}
 use Rattle.sift_flight.specs.Flight.{Flight, Strays, AreSameAt, HasNoStorms, IsRound}
 use Rattle.sift_flight.specs.Figures.{config_at, lead_of, working_at, offsets_at, next_offsets_at, is_sound_at, margin_before, skew_of, slack_of}
@@ -55,7 +55,7 @@ module _ (m : FlownMission) (s s' : Strays) (fl gl : Flight) (flyable : IsFlyabl
   same_offsets f low number =
       ap (map (λ u. number (fl.account u f))) (same_working f low)
       ∙ map-same (λ u. number (fl.account u f)) (λ u. number (gl.account u f)) (working_at m gl f)
-      (λ u h. ap number (same_unit u f (inside f low u (filter_has (λ v. m.works v f) (config_at m gl f) u h).1) low).account)
+      (λ u h. ap number (same_unit u f (inside f low u (of_filtered (λ v. m.works v f) (config_at m gl f) u h).1) low).account)
 
   -- the margin
   same_sound : (f : ℕ) → f < m.frames → is_sound_at m fl f ≡ is_sound_at m gl f

@@ -5,7 +5,7 @@ use Rattle.std.specs.List.{filter}
 use Rattle.std.proofs.lemmas.Int.{ints}
 use Rattle.sift_base.specs.Units.{has}
 use Rattle.sift_base.specs.declared.slot.Slot.TheVariants.{Clock}
-use Rattle.sift_base.specs.laws.Counts.{filter_has}
+use Rattle.sift_base.specs.laws.Counts.{of_filtered}
 use Rattle.sift_clock.specs.Distance.{IsWithin}
 use Rattle.sift_clock.specs.Correction.{is_too_far}
 use Rattle.sift_skew.specs.Keeping.{AreTogether, ReadsWell, AreWithin, next_offsets}
@@ -76,7 +76,7 @@ module _ (m : FlownMission) (strays : Strays) (fl : Flight) (f : ℕ) (us : List
       (here.flyable.clocks.drifts u (here.config.inside u w.member)))
 
   working : (u : ℕ) → has (filter (λ v. m.works v f) us) u ≡ true → Member m f us u
-  working u h = let t = filter_has (λ v. m.works v f) us u h in record { member = t.1; works = t.0 }
+  working u h = let t = of_filtered (λ v. m.works v f) us u h in record { member = t.1; works = t.0 }
 
   -- the figure of the skew is at most the skew
   pub skew_within : (s : ℤ) → IsSkew (map clk (filter (λ v. m.works v f) us)) s → s ≤ℤ m.skew

@@ -1,14 +1,14 @@
 -- Two round flights in which the same is heard of strays are the same; so are all of a mission without storms.
 use Rattle.std.proofs.Common.{◌≡◌, ⊎_elim, ℕ, zero, suc, ◌<◌, None, true, false, refl, sym, ap, ◌∙◌, subst, arith}
 use Rattle.std.proofs.lemmas.Bool.{cases_Bool}
-use Rattle.sift_exec.specs.laws.NextConfigs.{next_inside}
 use Rattle.sift_base.specs.Units.{has}
+use Rattle.sift_exec.specs.laws.NextConfigs.{next_inside}
 use Rattle.sift_mission.specs.Data.{FlownMission}
 use Rattle.sift_mission.specs.Slots.{has_turned}
-use Rattle.sift_conduct.specs.Conduct.{Account}
-use Rattle.sift_conduct.specs.Frames.{FrameConduct, Flies}
 use Rattle.sift_mission.specs.Fits.{Fits}
 use Rattle.sift_mission.specs.laws.Calls.{call_of}
+use Rattle.sift_conduct.specs.Conduct.{Account}
+use Rattle.sift_conduct.specs.Frames.{FrameConduct, Flies}
 use Rattle.sift_flight.specs.Flight.{Flight, unit_of, config_of, Strays, IsRound, HasNoStorms, AtMostOneIsRound}
 use Rattle.sift_flight.specs.Existence.{StrayHearing, HearsStrays, AtMostOneHearsThem}
 use Rattle.sift_flight.proofs.Reaching.{still_before}

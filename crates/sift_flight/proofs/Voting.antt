@@ -8,7 +8,7 @@ use Rattle.std.proofs.lemmas.List.{length-map}
 use Rattle.std.proofs.lemmas.Grind.{same_number_lists}
 use Rattle.sift_base.specs.Units.{has}
 use Rattle.sift_base.specs.declared.slot.Slot.TheVariants.{Out}
-use Rattle.sift_base.specs.laws.Counts.{count-cons, filter_has, has_filter}
+use Rattle.sift_base.specs.laws.Counts.{count-cons, of_filtered, in_filtered}
 use Rattle.sift_vote.specs.Majority.{IsMajority, differs}
 use Rattle.sift_vote.specs.laws.Found.{majority_is_found}
 use Rattle.sift_agree.specs.laws.Taking.{votes-working}
@@ -81,7 +81,7 @@ module _ (m : FlownMission) (strays : Strays) (fl : Flight) (f : ℕ) (us : List
   place_is : (w : ℕ) → w < m.words → Earlier w → (u : ℕ) → Member m f us u → (v : ℕ)
       → has (executors m us w) v ≡ true → m.works v f ≡ true → place u w v ≡ Some (slice_index outs w)
   place_is w low earlier u wu v hv wv =
-      let t = filter_has (m.executes us w) us v hv in
+      let t = of_filtered (m.executes us w) us v hv in
       let kept = kept_by w low v t.0 in
       let v' : Member m f us v = record { member = t.1; works = wv } in
       elim (eqb_tells v u) [
@@ -136,7 +136,7 @@ module _ (m : FlownMission) (strays : Strays) (fl : Flight) (f : ℕ) (us : List
         let w : ℕ = found.0 in
         let both = and_parts (m.executes us w v) _ found.2 in
         let low = below w (omega (arith, found.1)) in
-        let at_place = place_is w found.1 low u wu v (has_filter (m.executes us w) us v wv.member both.0) wv.works in
+        let at_place = place_is w found.1 low u wu v (in_filtered (m.executes us w) us v wv.member both.0) wv.works in
         let vote = (majority_is_found (map (place u w) (executors m us w)) (slice_index outs w)).1 (vote_is w found.1 (kept_by w found.1 v both.0) low u wu) in
         absurd (same_not_differs (slice_index outs w) (rw (at_place, vote) at both.1))
   ]

@@ -8,12 +8,12 @@ use Rattle.sift_config.specs.Config.{reader_of}
 use Rattle.sift_skew.specs.Keeping.{AreTogether}
 use Rattle.sift_mission.specs.Data.{FlownMission, IsConfigOf}
 use Rattle.sift_mission.specs.Slots.{calls}
+use Rattle.sift_mission.specs.Premises.{IsFlyable}
+use Rattle.sift_mission.specs.laws.Calls.{Call, call_is}
 use Rattle.sift_conduct.specs.Conduct.{UnitFrame, unit_frame, own_word, said_of, Conduct}
 use Rattle.sift_conduct.specs.Frames.{last_of, Flies}
 use Rattle.sift_flight.specs.Flight.{Flight, config_of, Strays, RoundAt}
 use Rattle.sift_flight.specs.Figures.{Works}
-use Rattle.sift_mission.specs.Premises.{IsFlyable}
-use Rattle.sift_mission.specs.laws.Calls.{Call, call_is}
 
 -- frame f is one of a round flight, and us is the configuration of all units that work in it
 pub record InFrame (m : FlownMission) (strays : Strays) (fl : Flight) (f : ℕ) (us : List ℕ) : Type 0 where

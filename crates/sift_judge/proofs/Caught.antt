@@ -4,14 +4,14 @@ use Rattle.std.proofs.Common.{inr, refl, sym, ap, ◌∙◌, add-one, arith}
 use Rattle.std.specs.Prelude.{count_by, nat_lt, slice_get}
 use Rattle.std.specs.List.{filter}
 use Rattle.std.specs.FinSet as set
+use Rattle.std.proofs.lemmas.List.Sums.{length-filter}
 use Rattle.std.proofs.lemmas.Bool.{cases_Bool}
 use Rattle.std.proofs.lemmas.Bool.Decides.{nat_tests}
 use Rattle.sift_base.specs.Units.{Units, has, holds}
 use Rattle.sift_base.specs.laws.Sets.{holds-insert}
-use Rattle.sift_exec.specs.laws.Counted.{filter-count}
 use Rattle.sift_mission.specs.Data.{MissionData}
-use Rattle.sift_report.specs.Told.{told_at, works_in}
 use Rattle.sift_line.specs.declared.line.ReportLine.{ReportLine}
+use Rattle.sift_report.specs.Told.{told_at, works_in}
 use Rattle.sift_judge.proofs.UnitSets.{filter_both}
 
 -- at least two working units of a configuration tell that they caught v
@@ -20,7 +20,7 @@ two_tell d lines f us v = nat_lt 1 (count_by (λ u. works_in d u f && holds (tol
 
 -- those of the working units that pass are as many as are counted of all
 pub count_both : (works passes : ℕ → Bool) (us : List ℕ) → length (filter passes (filter works us)) ≡ count_by (λ u. works u && passes u) us
-count_both works passes us = ap length (sym (filter_both works passes us)) ∙ filter-count (λ u. works u && passes u) us
+count_both works passes us = ap length (sym (filter_both works passes us)) ∙ length-filter (λ u. works u && passes u) us
 
 -- one unit more
 has_next : (us : List ℕ) (i u v : ℕ) → slice_get us i ≡ Some u → has (take (suc i) us) v ≡ (has (take i us) v || nat_eq u v)

@@ -10,10 +10,10 @@ use Rattle.sift_base.specs.laws.Ranges.{range-low}
 use Rattle.sift_config.specs.Config.{first_units}
 use Rattle.sift_mission.specs.Data.{MissionData}
 use Rattle.sift_mission.specs.PartsFit.{PartsFit}
-use Rattle.sift_report.specs.Headline.{HasForm, IsUnitsLine}
-use Rattle.sift_report.specs.Told.{HadMarginTold, HasMarginTold, IsSoundTold, agreed_told, line_at, told_at, told_in, lead_in, works_in}
 use Rattle.sift_line.specs.declared.line.ReportLine.{ReportLine}
 use Rattle.sift_line.specs.declared.line.ReportLine.TheVariants.{Unit as unit, Faulty, Idle, Frame, Last}
+use Rattle.sift_report.specs.Headline.{HasForm, IsUnitsLine}
+use Rattle.sift_report.specs.Told.{HadMarginTold, HasMarginTold, IsSoundTold, agreed_told, line_at, told_at, told_in, lead_in, works_in}
 
 -- ---- one frame more
 

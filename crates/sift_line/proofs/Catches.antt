@@ -11,6 +11,7 @@ use Rattle.std.proofs.lemmas.Cmp.{nat_cmp_total}
 use Rattle.std.proofs.lemmas.List.{length-map}
 use Rattle.std.proofs.lemmas.List.Folds.{list_any_more}
 use Rattle.std.proofs.lemmas.List.Elements.{All-cons, All-map, All-nil}
+use Rattle.std.proofs.lemmas.Simd.{map-map}
 use Rattle.sift_base.specs.Units.{Units, AreUnits, has, holds, members, unit_numbers}
 use Rattle.sift_base.specs.laws.ReadBack.{has-filter, has_low}
 use Rattle.sift_base.specs.laws.Counts.{has-head, has-tail, nat_eq-swap}
@@ -25,7 +26,6 @@ use Rattle.sift_line.specs.Bad.{AreTold, IsCatch, IsSomeKind, IsToldBy, catch_of
 use Rattle.sift_line.specs.declared.catch.Catch.{Catch}
 use Rattle.sift_line.specs.declared.bad.Bad.TheVariants.{ByKind}
 use Rattle.sift_line.specs.Part.{list_text}
-use Rattle.std.proofs.lemmas.Simd.{map-map}
 
 -- ---- everyone who was caught
 

@@ -6,7 +6,8 @@ use Rattle.std.specs.Cmp.{nat_cmp_total}
 use Rattle.std.specs.Prelude.{IfNone, IfSome}
 use Rattle.std.proofs.lemmas.Bool.{agree_below_at}
 use Rattle.sift_base.specs.Units.{Units, AreUnits, has, has_bit, holds, members, unit_numbers, units_of}
-use Rattle.sift_base.specs.laws.Sets.{filter_same, holds_low}
+use Rattle.sift_base.specs.laws.Sets.{holds_low}
+use Rattle.sift_base.specs.laws.Counts.{filter_same}
 use Rattle.sift_config.specs.Config.{IsConfig, first_units, remaining}
 use Rattle.sift_config.specs.laws.FirstUnits.{unit_low}
 use Rattle.sift_line.specs.Part.{units_text}

@@ -8,8 +8,8 @@ use Rattle.std.proofs.lemmas.Bool.{cases_Bool, cases_eq, eqb-true, ne_eqb}
 use Rattle.std.proofs.lemmas.List.{take_more}
 use Rattle.sift_base.specs.Units.{Units, AreUnits, IsAscending, has, holds, members, unit_limit, unit_numbers}
 use Rattle.sift_base.specs.laws.ReadBack.{has-filter, set-members}
-use Rattle.sift_base.specs.laws.Counts.{has-head, has-tail, nat_eq-swap}
-use Rattle.sift_base.specs.laws.Sets.{filter_same, below_has, holds-insert}
+use Rattle.sift_base.specs.laws.Counts.{has-head, has-tail, nat_eq-swap, filter_same}
+use Rattle.sift_base.specs.laws.Sets.{below_has, holds-insert}
 use Rattle.sift_config.specs.Config.{IsConfig}
 use Rattle.sift_line.specs.Part.{AscendFrom}
 

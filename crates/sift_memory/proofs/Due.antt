@@ -2,8 +2,8 @@
 use Rattle.std.proofs.Common.{◌≡◌, ◌≢◌, ℕ, ◌<◌, ◌≤◌, List, ap, ◌∙◌, arith}
 use Rattle.sift_mission.specs.Data.{FlownMission}
 use Rattle.sift_mission.specs.Fits.{Fits}
+use Rattle.sift_mission.specs.laws.Tasks.{few_tasks}
 use Rattle.sift_memory.specs.Stops.{spot, IsNothingBetween, hearing, running, saying}
-use Rattle.sift_memory.specs.laws.Tasks.{few_tasks}
 
 module _ (m : FlownMission) (fit : Fits m) (us : List ℕ) (subframe from to : ℕ) (most : to ≤ m.slots) where
   -- where none of the slots is heard

@@ -6,10 +6,10 @@ use Rattle.std.specs.Prelude.{nat_lt, if◌then◌else◌}
 use Rattle.std.proofs.lemmas.Bool.{cases_Bool}
 use Rattle.sift_base.specs.Units.{has, others, IsAscending}
 use Rattle.sift_base.specs.laws.Counts.{has-head, has-tail, IsBelowAll}
+use Rattle.sift_base.specs.laws.ReadBack.{and_in}
 use Rattle.sift_config.specs.Config.{IsConfig}
 use Rattle.sift_mission.specs.Data.{FlownMission}
 use Rattle.sift_memory.specs.Memory.{renewed, is_made_by}
-use Rattle.sift_memory.specs.laws.Tests.{and_in}
 
 -- values in turn, one unit more
 pub map_more : {A : Type 0} (f : ℕ → A) (us : List ℕ) (i t : ℕ) → slice_get us i ≡ Some t → map f (take (i + 1) us) ≡ map f (take i us) ++ f t ∷ []

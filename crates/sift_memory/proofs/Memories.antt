@@ -1,20 +1,21 @@
 -- Sets of units in a memory.
 use Rattle.std.proofs.Common.{◌≡◌, ℕ, ◌<◌, ◌&&◌, Bool, true, not, nat_eq, List, [], ◌∷◌, length, map, inl, inr, ap, ◌∙◌, sym, eqb-true}
 use Rattle.std.proofs.Common.{false, nat_cmp}
-use Rattle.sift_base.specs.laws.ReadBack.{false_last}
-use Rattle.sift_vote.specs.Majority.{IsMajority, HasNoMajority, majority_of}
-use Rattle.sift_vote.specs.laws.Found.{majority_is_found}
 use Rattle.std.proofs.Common.{Option, Some, None, refl}
 use Rattle.std.specs.Prelude.{IfSome, IfNone, slice_index_or, nat_le, if◌then◌else◌}
 use Rattle.std.proofs.lemmas.Bool.{cases_Bool}
 use Rattle.std.proofs.lemmas.List.{get_or_default}
-use Rattle.sift_base.specs.laws.Sets.{filter_same, same_units}
-use Rattle.sift_config.specs.Config.{remaining}
-use Rattle.sift_exec.specs.Conviction.{report_by, is_convicted, kept_by, next_by, next_units}
 use Rattle.std.specs.FinSet as set
-use Rattle.sift_base.specs.Units.{Units, has, holds}
-use Rattle.sift_memory.specs.Memory.{Memory, units_at, gathered}
 use Rattle.std.specs.Prelude.{ℤ}
+use Rattle.sift_base.specs.Units.{Units, has, holds}
+use Rattle.sift_base.specs.laws.ReadBack.{false_last}
+use Rattle.sift_base.specs.laws.Sets.{same_units}
+use Rattle.sift_base.specs.laws.Counts.{filter_same}
+use Rattle.sift_vote.specs.Majority.{IsMajority, HasNoMajority, majority_of}
+use Rattle.sift_config.specs.Config.{remaining}
+use Rattle.sift_vote.specs.laws.Found.{majority_is_found}
+use Rattle.sift_exec.specs.Conviction.{report_by, is_convicted, kept_by, next_by, next_units}
+use Rattle.sift_memory.specs.Memory.{Memory, units_at, gathered}
 use Rattle.sift_memory.specs.laws.Sets.{holds-gathered}
 
 -- a set of those units of a list that pass a test is the one that was gathered

@@ -8,7 +8,7 @@ use Rattle.sift_skew.specs.Limits.{offset_limit}
 use Rattle.sift_skew.specs.Leading.{OffsetsChangeLittle}
 use Rattle.sift_mission.specs.Data.{FlownMission}
 use Rattle.sift_mission.specs.Fits.{Fits, change_limit}
-use Rattle.sift_memory.specs.laws.Offsets.{next_little}
+use Rattle.sift_mission.specs.laws.Offsets.{next_little}
 
 -- the sum of an offset, a mean and a drift, where the sum is near the offset and the drift is small: its parts are held in variables
 advanced : (next own mean drift : ℤ) → next ≡ own +ℤ mean +ℤ drift → IsWithin offset_limit own (pos 0) → IsWithin (pos change_limit) next own

@@ -4,14 +4,14 @@ use Rattle.std.proofs.lemmas.Bool.{lt-ltb, ltb-true}
 use Rattle.sift_base.specs.Layout.{IsSlot, slot_count, slot_number}
 use Rattle.sift_base.specs.declared.slot.Slot.{Slot}
 use Rattle.sift_base.specs.declared.slot.Slot.TheVariants.{Clock, Sense, RelaySense, Out, Report, RelayReport}
+use Rattle.sift_base.specs.Layout.{slot_kind}
+use Rattle.sift_base.specs.laws.Numbers.{kind-of-number, number-of-kind}
+use Rattle.sift_base.specs.laws.Ranges.{has-range, range-has}
 use Rattle.sift_mission.specs.Data.{MissionData}
 use Rattle.sift_mission.specs.Fits.{IsNumbered}
-use Rattle.sift_base.specs.Layout.{slot_kind}
 use Rattle.sift_mission.specs.Flown.{flown}
 use Rattle.sift_mission.specs.PartsFit.{PartsFit}
 use Rattle.sift_mission.specs.Slots.{is_slot}
-use Rattle.sift_base.specs.laws.Numbers.{kind-of-number, number-of-kind}
-use Rattle.sift_base.specs.laws.Ranges.{has-range, range-has}
 
 module _ (d : MissionData) (fit : PartsFit d) where
   -- the mission's slots are those of its layout

@@ -14,6 +14,7 @@ use Rattle.sift_table.specs.Laws.{SlotsAreHeardInTime, TasksHaveThreeExecutors}
 use Rattle.sift_table.specs.Rules.{row_rules, rules_where}
 use Rattle.sift_table.specs.Schedule.{Schedule, positions_of}
 use Rattle.sift_table.specs.Timing.{due_in, heard_in, is_shed, task_of}
+use Rattle.sift_program.specs.laws.ShapeLists.{length-shapes, words-shapes}
 use Rattle.sift_mission.specs.Data.{IsConfigOf, MissionData, shapes_in}
 use Rattle.sift_mission.specs.Fits.{IsTimed, HasExecutors, is_caught_in}
 use Rattle.sift_mission.specs.Flown.{flown, position_in, runs_in, table_for}
@@ -22,7 +23,6 @@ use Rattle.sift_mission.specs.Timetable.{HasRowsFor}
 use Rattle.sift_mission.specs.Slots.{is_held, is_silent, is_slot}
 use Rattle.sift_mission.proofs.FitSlots.{is-slot}
 use Rattle.sift_mission.proofs.Positions.{length-ascending, positions-filtered}
-use Rattle.sift_program.specs.laws.ShapeLists.{length-shapes, words-shapes}
 use Rattle.sift_mission.proofs.Tasks.{among-below}
 
 module _ (d : MissionData) (fit : PartsFit d) where

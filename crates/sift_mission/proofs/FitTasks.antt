@@ -7,13 +7,14 @@ use Rattle.std.specs.List.{All, filter, range_with_len}
 use Rattle.sift_base.specs.Units.{has}
 use Rattle.sift_base.specs.Shapes.{Shape, first_word, shape_at, words_in}
 use Rattle.sift_base.specs.laws.Ranges.{has-range, range-has}
-use Rattle.sift_base.specs.laws.Counts.{has_filter}
+use Rattle.sift_base.specs.laws.Counts.{in_filtered}
 use Rattle.sift_lang.specs.Sound.{AllNowsBelow, IsSound}
 use Rattle.sift_lang.specs.Tree.{TaskTree, end}
-use Rattle.sift_program.specs.Program as program
-use Rattle.sift_program.specs.Program.{output_count, reads_task, task_at}
 use Rattle.sift_table.specs.Laws.{TasksRunAfterTheirNeeds, WordsHaveTheirTask}
 use Rattle.sift_table.specs.Timing.{task_of}
+use Rattle.sift_program.specs.Program as program
+use Rattle.sift_program.specs.Program.{output_count, reads_task, task_at}
+use Rattle.sift_program.specs.laws.ShapeLists.{shape_in, length-shapes, shape-there, take-shapes, words-shapes, reads_word}
 use Rattle.sift_mission.specs.Data.{MissionData, shapes_in}
 use Rattle.sift_mission.specs.Fits.{IsRead, IsCounted, SameAt}
 use Rattle.sift_mission.specs.Flown.{flown, table_for, word_made}
@@ -22,7 +23,6 @@ use Rattle.sift_mission.specs.Premises.{IsAmong, RunsProgram}
 use Rattle.sift_mission.proofs.FitSlots.{few-words}
 use Rattle.sift_mission.proofs.FitTables.{table-is, task-below, words-are}
 use Rattle.sift_mission.proofs.Meanings.{SameRead, meaning-same}
-use Rattle.sift_program.specs.laws.ShapeLists.{shape_in, length-shapes, shape-there, take-shapes, words-shapes, reads_word}
 use Rattle.sift_mission.proofs.Tasks.{among-before, among-earlier, among-own, any-has, contains-has, has-filter}
 
 -- sound tasks have a word each, or more
@@ -81,7 +81,7 @@ module _ (d : MissionData) (fit : PartsFit d) where
       let within : v < d.layout.words = omega (arith, sum_by-take-le (λ (shape : Shape). shape.outputs) (shapes_in d).tasks t) in
       let earlier : e < t = among-before (shapes_in d).tasks t v (omega arith) in
       let read : reads_task d.program.tasks (task_for w) e ≡ true = any-has (reads_word (task_for w)) _ v (word-own v within) reads in
-      let kept = has_filter (reads_task d.program.tasks (task_for w)) (range_with_len 0 t) e (has-range 0 t e (omega arith) (omega arith)) read in
+      let kept = in_filtered (reads_task d.program.tasks (task_for w)) (range_with_len 0 t) e (has-range 0 t e (omega arith) (omega arith)) read in
       (within, needs-are w v low ∙ kept)
 
   -- a word that a task needs is one of an earlier task

@@ -2,9 +2,6 @@
 use Rattle.std.proofs.Common.{◌≡◌, ℕ, ◌<◌, List, length, slice_index, true, ap, ◌∙◌, subst, arith, zero-add, ltb-true}
 use Rattle.sift_base.specs.Layout.{slot_count, slot_kind}
 use Rattle.sift_base.specs.declared.slot.Slot.TheVariants.{Out}
-use Rattle.sift_mission.proofs.FitSlots.{numbered}
-use Rattle.sift_mission.specs.laws.ByWords.{at-by_word, length-by_word}
-use Rattle.sift_mission.proofs.FitTasks.{task-there}
 use Rattle.sift_mission.specs.ByWord.{IsHeld, by_word}
 use Rattle.sift_mission.specs.Data.{MissionData}
 use Rattle.sift_mission.specs.Parts.{data_of, flown_of}
@@ -14,6 +11,9 @@ use Rattle.sift_mission.specs.Slots.{is_slot}
 use Rattle.sift_mission.specs.declared.parts.MissionParts.{MissionParts}
 use Rattle.sift_mission.specs.declared.crews.Crews.{Crews}
 use Rattle.sift_mission.specs.declared.timetable.Timetable.{Timetable}
+use Rattle.sift_mission.specs.laws.ByWords.{at-by_word, length-by_word}
+use Rattle.sift_mission.proofs.FitSlots.{numbered}
+use Rattle.sift_mission.proofs.FitTasks.{task-there}
 
 -- what is held of the fields is held of the value that they are seen as
 pub held-as : (parts value : MissionParts) (slots : ℕ) (tasks : List ℕ) (times : List Timetable) (crews : List Crews) → IsHeld parts slots tasks times crews →

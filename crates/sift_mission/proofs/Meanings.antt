@@ -6,8 +6,8 @@ use Rattle.sift_lang.specs.Tree.{Term, number, local, sense, this_frame, last_fr
 use Rattle.sift_lang.specs.Meaning.{Readings, State, value_of, chosen, after, after_all, meaning}
 use Rattle.sift_lang.specs.Sound.{Bounds, NamesWithin, IsSoundStatement, IsSoundBlock, IsSound, NowsBelow, EachTerm, EachTermOf, AllNowsBelow, locals_after}
 use Rattle.sift_lang.specs.laws.States.{iterate-same, scoped-same}
-use Rattle.sift_program.specs.laws.ShapeLists.{reads_word}
 use Rattle.sift_program.specs.Program.{term_reads, statement_reads, block_reads}
+use Rattle.sift_program.specs.laws.ShapeLists.{reads_word}
 
 -- the lists have the same words at the places below made that pass a test
 abbrev pub SameRead : (ℕ → Bool) → ℕ → List ℕ → List ℕ → Type 0

@@ -3,8 +3,8 @@ use Rattle.std.proofs.Common.{◌≡◌, ℕ, zero, suc, ◌+◌, ◌<◌, ◌�
 use Rattle.std.specs.List.{filter, range_with_len}
 use Rattle.std.proofs.lemmas.Bool.{cases_Bool, eq-eqb, eqb-true, ne_eqb}
 use Rattle.std.proofs.lemmas.List.Sums.{length-filter}
-use Rattle.sift_base.specs.laws.Counts.{IsBelowAll, count-same, has-head, has-tail, count-cons}
 use Rattle.sift_base.specs.Units.{has, IsAscending}
+use Rattle.sift_base.specs.laws.Counts.{IsBelowAll, count-same, has-head, has-tail, count-cons}
 use Rattle.sift_mission.specs.Flown.{position_in}
 
 -- a unit below all of a list isn't in it

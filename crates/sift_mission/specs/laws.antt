@@ -2,5 +2,8 @@
 pub mod ByWords
 pub mod Calls
 pub mod Configs
+pub mod Frames
+pub mod Offsets
 pub mod Silent
+pub mod Tasks
 pub mod Turning

@@ -6,10 +6,10 @@ use Rattle.std.proofs.lemmas.List.Elements.{All-filter, All-take}
 use Rattle.std.specs.List.{All, filter, range_with_len}
 use Rattle.sift_base.specs.Requirement.{AreMet}
 use Rattle.sift_base.specs.Shapes.{AllShapes}
+use Rattle.sift_base.specs.Units.{has, IsAscending}
 use Rattle.sift_base.specs.laws.Counts.{IsBelowAll}
 use Rattle.sift_base.specs.laws.Ranges.{range-ascends, range-below}
 use Rattle.sift_base.specs.laws.Sets.{passing_ascend}
-use Rattle.sift_base.specs.Units.{has, IsAscending}
 use Rattle.sift_table.specs.Rules.{AreApart, row_rules, rules_where}
 use Rattle.sift_table.specs.Schedule.{Schedule, positions_of, run_in}
 use Rattle.sift_planner.specs.Earliest.{free_positions, is_used}

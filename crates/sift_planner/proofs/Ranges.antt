@@ -1,9 +1,10 @@
 -- Consecutive numbers.
-use Rattle.std.proofs.Common.{◌≡◌, ℕ, zero, suc, ◌+◌, ◌<◌, ◌≤◌, [], ◌∷◌, take, Bool, true, false, ◌||◌, refl, ap, ◌∙◌, sym, arith}
+use Rattle.std.proofs.Common.{◌≡◌, ℕ, zero, suc, ◌+◌, ◌<◌, ◌≤◌, [], ◌∷◌, take, Bool, true, false, ◌||◌, refl, ap, ◌∙◌, arith}
+use Rattle.std.specs.List.{list_any, range_with_len}
 use Rattle.std.proofs.lemmas.List.Folds.{list_any-append, list_any_at}
 use Rattle.std.proofs.lemmas.List.FromFn.{get_or-range_with_len, length-range_with_len}
 use Rattle.sift_base.specs.laws.Ranges.{range-more}
-use Rattle.std.specs.List.{list_any, range_with_len}
+use Rattle.sift_base.specs.laws.ReadBack.{or_false}
 
 -- the first numbers of a range are one
 pub take-range : (a k n : ℕ) → k ≤ n → take k (range_with_len a n) ≡ range_with_len a k
@@ -13,23 +14,11 @@ take-range a (suc k) (suc n) few = ap (λ rest. a ∷ rest) (take-range (a + 1) 
 
 -- ---- tests of the numbers below a bound
 
--- a truth value or `false` is that truth value
-pub or_false : (b : Bool) → (b || false) ≡ b
-or_false true = refl
-or_false false = refl
-
 -- one number more is tested
 pub any_more : (f : ℕ → Bool) (n : ℕ) → list_any f (range_with_len 0 (suc n)) ≡ (list_any f (range_with_len 0 n) || f n)
 any_more f n =
     ap (list_any f) (range-more 0 n) ∙ list_any-append f (range_with_len 0 n) ((0 + n) ∷ [])
     ∙ ap (λ b. list_any f (range_with_len 0 n) || b) (or_false (f (0 + n)) ∙ ap f (let e : 0 + n ≡ n = omega arith in e))
-
--- two tests that agree below the bound
-pub any_same : (f g : ℕ → Bool) (n : ℕ) → ((d : ℕ) → d < n → f d ≡ g d) → list_any f (range_with_len 0 n) ≡ list_any g (range_with_len 0 n)
-any_same f g zero same = refl
-any_same f g (suc n) same =
-    any_more f n ∙ ap (λ b. b || f n) (any_same f g n (λ d low. same d (omega (arith, low))))
-    ∙ ap (λ b. list_any g (range_with_len 0 n) || b) (same n (omega arith)) ∙ sym (any_more g n)
 
 -- a test that no number below the bound passes
 pub any_none : (f : ℕ → Bool) (n : ℕ) → ((d : ℕ) → d < n → f d ≡ false) → list_any f (range_with_len 0 n) ≡ false

@@ -4,9 +4,9 @@ use Rattle.std.proofs.lemmas.Bool.{cases_order}
 use Rattle.std.proofs.lemmas.List.Elements.{filter_agree}
 use Rattle.std.specs.List.{All, filter, range_with_len}
 use Rattle.sift_base.specs.Units.{has}
+use Rattle.sift_base.specs.laws.Ranges.{any-same}
 use Rattle.sift_table.specs.Schedule.{Schedule, hearing_delay, polled_in, positions_of, run_in}
 use Rattle.sift_planner.specs.Earliest.{IsEarliestRow, IsLeastOpen, IsOpen, free_positions, is_used}
-use Rattle.sift_planner.proofs.Ranges.{any_same}
 
 -- two tables for the same configurations and frames have the same rows before row t
 pub record SameBefore (a b : Schedule) (t : ℕ) : Type 0 where
@@ -40,7 +40,7 @@ module _ (a b : Schedule) (t : ℕ) (same : SameBefore a b t) where
   -- the same positions are used
   pub used_same : (e p : ℕ) → is_used a t e p ≡ is_used b t e p
   used_same e p =
-      any_same (λ d. nat_eq (run_in a d) e && has (positions_of a d) p) (λ d. nat_eq (run_in b d) e && has (positions_of b d) p) t
+      any-same t (λ d. nat_eq (run_in a d) e && has (positions_of a d) p) (λ d. nat_eq (run_in b d) e && has (positions_of b d) p)
       (λ d low. ap (λ r. nat_eq r e && has (positions_of a d) p) (same.run d low) ∙ ap (λ ps. nat_eq (run_in b d) e && has ps p) (same.at d low))
 
   -- and the same are free

@@ -1,5 +1,5 @@
 -- One row more in a table that is planned, and in the counts of used positions.
-use Rattle.std.proofs.Common.{◌≡◌, ℕ, zero, suc, ◌+◌, ◌-◌, ◌<◌, ◌≤◌, List, [], ◌∷◌, length, take, set, Bool, true, false, not, ◌||◌, ◌&&◌, nat_eq, ltb, eqb, inl, inr, ap, sym, subst, ◌∙◌, refl, arith, length-append}
+use Rattle.std.proofs.Common.{◌≡◌, ℕ, zero, suc, ◌+◌, ◌-◌, ◌<◌, ◌≤◌, List, [], ◌∷◌, length, take, set, Bool, not, ◌||◌, ◌&&◌, nat_eq, ltb, eqb, inl, inr, ap, sym, subst, ◌∙◌, refl, arith, length-append}
 use Rattle.std.specs.Prelude.{nat_lt, slice_index}
 use Rattle.std.proofs.lemmas.Bool.{cases_eq, cases_lt, eq-eqb, le-ltb, lt-ltb, ne_eqb}
 use Rattle.std.proofs.lemmas.Bool.Decides.{nat_tests}
@@ -8,13 +8,14 @@ use Rattle.std.proofs.lemmas.List.FromFn.{length-range_with_len}
 use Rattle.std.specs.List.{filter, range_with_len}
 use Rattle.sift_base.specs.Shapes.{AllShapes, shape_at}
 use Rattle.sift_base.specs.Units.{has}
+use Rattle.sift_base.specs.laws.ReadBack.{or_false, or_assoc}
 use Rattle.sift_table.specs.Rules.{report_lead}
 use Rattle.sift_table.specs.Schedule.{Schedule, hearing_delay, polled_in, positions_of, run_in}
 use Rattle.sift_planner.specs.Drafts.{IsKept, TellsUsed, drafted, rows_in, with_row}
 use Rattle.sift_planner.specs.declared.draft.Draft.{Draft}
 use Rattle.sift_planner.specs.Earliest.{IsEarliestRow, IsLeastOpen, free_positions, is_used}
 use Rattle.sift_planner.specs.Plans.{ArePlannable, IsPlanned, Wanted, executors_of, longest_period}
-use Rattle.sift_planner.proofs.Ranges.{any_more, any_none, or_false, take-range}
+use Rattle.sift_planner.proofs.Ranges.{any_more, any_none, take-range}
 use Rattle.sift_planner.proofs.Same.{SameBefore, free_same, least_same, row_same, same_earlier, used_same}
 
 -- ---- used positions that are the first
@@ -72,10 +73,6 @@ module _ (table : Schedule) (count : ℕ) (used : List ℕ) (tells : TellsUsed t
       ∙ take-range (slice_index used e) k (table.size - slice_index used e) (omega (arith, few, free_count))
 
 -- ---- one row more
-
-or_assoc : (a b c : Bool) → (a || (b || c)) ≡ ((a || b) || c)
-or_assoc true b c = refl
-or_assoc false b c = refl
 
 -- a number below m or m itself is below the next
 below_next : (p m : ℕ) → (ltb p m || eqb m p) ≡ ltb p (m + 1)

@@ -1,27 +1,15 @@
 -- The shapes of a program's tasks, one after another.
-use Rattle.std.proofs.Common.{◌≡◌, ◌<◌, ◌≤◌, ◌+◌, ℕ, suc, List, [], ◌∷◌, ◌++◌, length, get_or, map, take, drop, Bool, true, false, cond, refl, sym, ap, ◌∙◌, add-one, drop-cons, arith}
+use Rattle.std.proofs.Common.{◌≡◌, ◌<◌, ◌≤◌, ◌+◌, ℕ, List, [], ◌∷◌, ◌++◌, length, get_or, map, take, Bool, true, false, cond, refl, sym, ap, ◌∙◌, arith}
 use Rattle.std.proofs.lemmas.List.{get_or-map, length-map, take_more}
 use Rattle.std.proofs.lemmas.List.Elements.{filter-append}
 use Rattle.std.proofs.lemmas.List.Sums.{sum_by_more, sum_by_more_le}
 use Rattle.std.specs.List.{filter, list_any, range_with_len}
 use Rattle.sift_base.specs.Shapes.{Shape}
 use Rattle.sift_base.specs.laws.Ranges.{range-next}
-use Rattle.sift_lang.specs.Tree.{TaskTree, block_of, end, statement_of, step, tree_of}
-use Rattle.sift_lang.specs.declared.tree.Stmt.{Stmt}
+use Rattle.sift_lang.specs.Tree.{TaskTree, end, tree_of}
 use Rattle.sift_lang.specs.declared.tree.Task.{Task}
 use Rattle.sift_program.specs.Program.{first_word, output_count, reads_task, shapes_from, task_at}
 use Rattle.sift_program.specs.laws.ShapeLists.{reads_word, shape_in, length-shapes, shape-there}
-
--- ---- blocks
-
--- the statements from a place on are the one there and then the rest
-pub block_of-drop :
-    (statements : List Stmt) (i : ℕ) (statement : Stmt) → i < length statements → statement ≡ get_or statements i statement
-    → block_of (drop i statements) ≡ step (statement_of statement) (block_of (drop (i + 1) statements))
-block_of-drop statements i statement within is =
-    let here = drop-cons statements i statement within ∙ ap (λ first. first ∷ drop (suc i) statements) (sym is) in
-    let front : drop i statements ≡ statement ∷ drop (i + 1) statements = rw add-one here in
-    ap block_of front
 
 -- ---- what a task needs
 

@@ -6,10 +6,10 @@ use Rattle.std.proofs.lemmas.Option.{slice_get-get_or}
 use Rattle.sift_lang.specs.Tree.{TaskTree, end}
 use Rattle.sift_lang.specs.Meaning.{meaning}
 use Rattle.sift_lang.specs.laws.States.{length-meaning}
-use Rattle.sift_program.proofs.lemmas.Earlier.{meaning-same}
-use Rattle.sift_program.proofs.lemmas.Frames.{first_word-more, words_made-more}
 use Rattle.sift_program.specs.Ideal.{words_made}
 use Rattle.sift_program.specs.Program.{task_at, ProgramTree, IsSoundProgram, first_word, output_count}
+use Rattle.sift_program.proofs.lemmas.Earlier.{meaning-same}
+use Rattle.sift_program.proofs.lemmas.Frames.{first_word-more, words_made-more}
 
 -- words in the place of others leave the list as long as it was
 pub put-long : (list words : List ℕ) (at : ℕ) → at + length words ≤ length list → length (take at list ++ (words ++ drop (at + length words) list)) ≡ length list

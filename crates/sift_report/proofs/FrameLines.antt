@@ -4,12 +4,14 @@ use Rattle.std.specs.Prelude.{IsSomeAnd, pos, ◌≤ℤ◌}
 use Rattle.std.specs.List.{filter}
 use Rattle.std.proofs.lemmas.Bool.{cases_Bool}
 use Rattle.sift_base.specs.Units.{has, holds}
-use Rattle.sift_base.specs.laws.Counts.{filter_has, has_filter, count-same, map-same}
+use Rattle.sift_base.specs.laws.Counts.{of_filtered, in_filtered, count-same, map-same}
 use Rattle.sift_base.specs.laws.Ranges.{range-low}
 use Rattle.sift_exec.specs.Conviction.{everyone_in}
-use Rattle.sift_conduct.specs.Conduct.{caught}
 use Rattle.sift_mission.specs.Data.{MissionData}
 use Rattle.sift_mission.specs.Flown.{flown}
+use Rattle.sift_line.specs.declared.version.Version.{Version}
+use Rattle.sift_line.specs.declared.line.ReportLine.{ReportLine}
+use Rattle.sift_conduct.specs.Conduct.{caught}
 use Rattle.sift_flight.specs.Figures.{HasMarginAt, Works, config_at, lead_of, next_offsets_at, offsets_at, working_at, skew_of, slack_of}
 use Rattle.sift_flight.specs.Flight.{Flight}
 use Rattle.sift_flight.specs.Headline.{Headline, agreed_at, two_caught}
@@ -17,8 +19,6 @@ use Rattle.sift_flight.specs.laws.Leading.{config_within, lead_works}
 use Rattle.sift_report.specs.Headline.{TellsClockSkew, TellsExactRemoval, TellsNoFalseAccusation, TellsSameInputs}
 use Rattle.sift_report.specs.Sheet.{sheet_of}
 use Rattle.sift_report.specs.Told.{agreed_told, config_told, told_at, told_in}
-use Rattle.sift_line.specs.declared.version.Version.{Version}
-use Rattle.sift_line.specs.declared.line.ReportLine.{ReportLine}
 use Rattle.sift_report.proofs.Alike.{one_told}
 use Rattle.sift_report.proofs.RoundFlights.{HasLaws}
 use Rattle.sift_report.proofs.SheetConfigs.{agreed_is, config_is}
@@ -126,7 +126,7 @@ module _ (d : MissionData) (fl : Flight) (version : Version) (laws : HasLaws d f
 
     clocks_alike : working_clocks d sheet f (config_at (flown d) fl f) ≡ offsets_at (flown d) fl f
     clocks_alike = map-same (λ u. (told_at d sheet f u).clock) (λ u. (fl.account u f).clk) (working_at (flown d) fl f) (λ u there.
-        let both = filter_has (λ v. (flown d).works v f) (config_at (flown d) fl f) u there in
+        let both = of_filtered (λ v. (flown d).works v f) (config_at (flown d) fl f) u there in
         ap (λ t. t.clock) (tells_account u (member_works u both.1 both.0)))
 
     -- some unit works, so there are offsets
@@ -134,7 +134,7 @@ module _ (d : MissionData) (fl : Flight) (version : Version) (laws : HasLaws d f
     some_clock =
         let l = lead_of (flown d) f in
         some_offsets (λ u. (fl.account u f).clk) (working_at (flown d) fl f) l
-        (has_filter (λ u. (flown d).works u f) (config_at (flown d) fl f) l (holds_here.same_configuration.member l lead) lead.works)
+        (in_filtered (λ u. (flown d).works u f) (config_at (flown d) fl f) l (holds_here.same_configuration.member l lead) lead.works)
 
     true_skew : IsSomeAnd (told_at d sheet f d.units).skew (IsTrueSkew d (offsets_at (flown d) fl f))
     true_skew =

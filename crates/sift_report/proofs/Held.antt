@@ -6,8 +6,8 @@ use Rattle.std.specs.List.{All, flat_map, range_with_len}
 use Rattle.std.proofs.lemmas.Grind.{flat_map-append}
 use Rattle.std.proofs.lemmas.List.{append-nil, map_more, take_all}
 use Rattle.std.proofs.lemmas.List.Elements.{All-append}
+use Rattle.std.proofs.lemmas.Option.{slice_get_within, get_or_from_slice_get}
 use Rattle.sift_base.specs.laws.Ranges.{range-next}
-use Rattle.sift_exec.specs.laws.Counted.{place_holds, place_there}
 use Rattle.sift_line.specs.Line.{IsLine}
 use Rattle.sift_line.specs.declared.line.ReportLine.{ReportLine}
 
@@ -25,7 +25,7 @@ pub one_more : (line : ℕ → ReportLine) (us : List ℕ) (i u : ℕ) → slice
     → All IsLine (map line (take i us)) → IsLine (line u) → All IsLine (map line (take (i + 1) us))
 one_more line us i u there so_far here =
     let more : map line (take (i + 1) us) ≡ map line (take i us) ++ line u ∷ [] =
-    map_more line us i u (place_there us i u there) ∙ ap (λ v. map line (take i us) ++ line v ∷ []) (place_holds us i u u there) in
+    map_more line us i u (slice_get_within us i u there) ∙ ap (λ v. map line (take i us) ++ line v ∷ []) (get_or_from_slice_get us i u u there) in
     subst (All IsLine) (sym more) (All-append IsLine (map line (take i us)) (line u ∷ []) so_far (one_line (line u) here))
 
 -- the lines of all units, and that of the frame behind them

@@ -4,11 +4,11 @@ use Rattle.std.specs.List.{filter}
 use Rattle.std.proofs.lemmas.Int.{ints}
 use Rattle.std.proofs.lemmas.Option.{none-some, same_Some}
 use Rattle.sift_base.specs.Units.{HasMargin, has}
-use Rattle.sift_skew.specs.laws.Leads.{skew_is_unique}
 use Rattle.sift_table.specs.Laws.{PlainTablesAreGood}
+use Rattle.sift_skew.specs.laws.Leads.{skew_is_unique}
+use Rattle.sift_line.specs.declared.line.ReportLine.TheVariants.{Frame, Last}
 use Rattle.sift_flight.specs.Calms.{CalmMissionsFly}
 use Rattle.sift_report.specs.Told.{HasMarginTold, IsWorking, works_in}
-use Rattle.sift_line.specs.declared.line.ReportLine.TheVariants.{Frame, Last}
 use Rattle.sift_report.specs.TwoCatchers.{FaultIsWithinTheHeadline, OtherLinesAreRefused, all_five, four_left, mission, one_catcher, other, unit_4_stays}
 use Rattle.sift_report.proofs.TwoCatchers.{headline_holds, holds-none, holds-only, no_skew}
 use Rattle.sift_report.proofs.TwoCatchersFit.{parts_fit}

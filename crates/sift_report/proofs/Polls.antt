@@ -11,20 +11,20 @@ use Rattle.std.proofs.lemmas.List.Sums.{sum_by_more, sum_by_more_le}
 use Rattle.std.proofs.lemmas.Simd.{map-map}
 use Rattle.sift_base.specs.Layout.{word_limit}
 use Rattle.sift_lang.specs.Tree.{TaskTree, tree_of}
+use Rattle.sift_vote.specs.Majority.{majority_of, HasNoMajority, IsMajority}
+use Rattle.sift_vote.specs.laws.Found.{majority_is_found}
 use Rattle.sift_program.specs.Program.{first_word, output_count, task_at}
 use Rattle.sift_mission.specs.Data.{MissionData, FlownMission}
 use Rattle.sift_mission.specs.Parts.{data_of}
 use Rattle.sift_mission.specs.Flown.{flown}
 use Rattle.sift_mission.specs.PartsFit.{PartsFit}
 use Rattle.sift_mission.specs.declared.parts.MissionParts.{MissionParts}
-use Rattle.sift_vote.specs.Majority.{majority_of, HasNoMajority, IsMajority}
-use Rattle.sift_vote.specs.laws.Found.{majority_is_found}
-use Rattle.sift_flight.specs.Flight.{Flight, config_of}
 use Rattle.sift_line.specs.Part.{blank, list_text, text_or_dash, unit_digit, word_text}
+use Rattle.sift_mission.specs.Slots.{executors}
+use Rattle.sift_flight.specs.Flight.{Flight, config_of}
 use Rattle.sift_report.specs.Poll.{poll_of, polled_text, polls_of}
 use Rattle.sift_report.specs.Votes.{place_of, vote_text}
 use Rattle.sift_report.specs.declared.poll.Poll.{Poll}
-use Rattle.sift_mission.specs.Slots.{executors}
 
 -- the name of a task or a sensor
 abbrev Name : Type 0

@@ -3,18 +3,18 @@ use Rattle.std.proofs.Common.{◌≡◌, ℕ, zero, suc, ◌+◌, ◌-◌, ◌<�
 use Rattle.std.specs.List.{flat_map, range_with_len}
 use Rattle.sift_base.specs.Units.{has}
 use Rattle.sift_base.specs.laws.Counts.{has-head, has-tail, map-same}
-use Rattle.sift_conduct.specs.Conduct.{Account, Places}
 use Rattle.sift_mission.specs.Data.{MissionData}
 use Rattle.sift_mission.specs.Flown.{flown}
+use Rattle.sift_line.specs.Line.{printed, text_of_lines}
+use Rattle.sift_line.specs.declared.version.Version.{Version}
+use Rattle.sift_line.specs.declared.line.ReportLine.TheVariants.{Faulty, Last}
+use Rattle.sift_conduct.specs.Conduct.{Account, Places}
 use Rattle.sift_flight.specs.Alike.{AreAlike}
 use Rattle.sift_flight.specs.Figures.{config_at, margin_at}
 use Rattle.sift_flight.specs.Flight.{Flight}
-use Rattle.sift_line.specs.Line.{printed, text_of_lines}
 use Rattle.sift_report.specs.OneText.{AlikeFlightsHaveOneText}
 use Rattle.sift_report.specs.Sheet.{end_of, frame_line, frame_lines, last_line, sheet_of, unit_line, working_line}
 use Rattle.sift_report.specs.Votes.{unit_votes, votes_of}
-use Rattle.sift_line.specs.declared.version.Version.{Version}
-use Rattle.sift_line.specs.declared.line.ReportLine.TheVariants.{Faulty, Last}
 use Rattle.sift_report.proofs.Tells.{frame_votes}
 
 -- what is the same at each number from a on is the same of all of them

@@ -5,6 +5,8 @@ use Rattle.sift_base.specs.Units.{HasMargin, has}
 use Rattle.sift_base.specs.laws.Ranges.{range-low}
 use Rattle.sift_mission.specs.Data.{MissionData}
 use Rattle.sift_mission.specs.Flown.{flown}
+use Rattle.sift_line.specs.declared.version.Version.{Version}
+use Rattle.sift_line.specs.declared.line.ReportLine.{ReportLine}
 use Rattle.sift_flight.specs.Figures.{HasMarginAt, Works, config_at, lead_of}
 use Rattle.sift_flight.specs.Flight.{Flight, config_of}
 use Rattle.sift_flight.specs.Headline.{agreed_at}
@@ -13,8 +15,6 @@ use Rattle.sift_report.specs.Headline.{TellsSameConfiguration}
 use Rattle.sift_report.specs.Printed.{TellsItsFlight}
 use Rattle.sift_report.specs.Sheet.{sheet_of}
 use Rattle.sift_report.specs.Told.{HadMarginTold, HasMarginTold, IsSoundTold, agreed_told, config_told, told_at, told_in}
-use Rattle.sift_line.specs.declared.version.Version.{Version}
-use Rattle.sift_line.specs.declared.line.ReportLine.{ReportLine}
 use Rattle.sift_report.proofs.Alike.{one_told}
 use Rattle.sift_report.proofs.RoundFlights.{HasLaws}
 use Rattle.sift_report.proofs.SheetForm.{line_of_member, works_flying}

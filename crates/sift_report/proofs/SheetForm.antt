@@ -9,15 +9,15 @@ use Rattle.sift_exec.specs.declared.catches.Catches.{Catches}
 use Rattle.sift_line.specs.Bad.{bad_in, units_in}
 use Rattle.sift_mission.specs.Data.{MissionData}
 use Rattle.sift_mission.specs.Flown.{flown}
+use Rattle.sift_line.specs.declared.version.Version.{Version}
+use Rattle.sift_line.specs.declared.version.Version.TheVariants.{One, Two}
+use Rattle.sift_line.specs.declared.line.ReportLine.TheVariants.{Faulty, Idle}
 use Rattle.sift_flight.specs.Figures.{Works}
 use Rattle.sift_flight.specs.Flight.{Flight}
 use Rattle.sift_flight.specs.Told.{IsAccountOf}
 use Rattle.sift_report.specs.Headline.{HasForm, IsUnitsLine}
 use Rattle.sift_report.specs.Sheet.{sheet_of, unit_line, working_line}
 use Rattle.sift_report.specs.Told.{IsWorking}
-use Rattle.sift_line.specs.declared.version.Version.{Version}
-use Rattle.sift_line.specs.declared.version.Version.TheVariants.{One, Two}
-use Rattle.sift_line.specs.declared.line.ReportLine.TheVariants.{Faulty, Idle}
 use Rattle.sift_report.proofs.RoundFlights.{HasLaws}
 use Rattle.sift_report.proofs.SheetPlaces.{end_at, frame_at, length-sheet, unit_at}
 use Rattle.sift_report.proofs.Tells.{account_line}

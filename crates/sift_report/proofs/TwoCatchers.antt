@@ -11,10 +11,10 @@ use Rattle.sift_base.specs.laws.Sets.{holds-insert}
 use Rattle.sift_base.specs.laws.Ranges.{range-low}
 use Rattle.sift_exec.specs.Conviction.{nobody, noted}
 use Rattle.sift_exec.specs.declared.catches.Kind.TheVariants.{Poll}
-use Rattle.sift_exec.specs.laws.Everyone.{holds-everyone}
-use Rattle.sift_line.specs.Bad.{units_in}
 use Rattle.sift_skew.specs.Figures.{IsSkew}
+use Rattle.sift_exec.specs.laws.Everyone.{holds-everyone}
 use Rattle.sift_skew.specs.laws.Leads.{Contains-map}
+use Rattle.sift_line.specs.Bad.{units_in}
 use Rattle.sift_mission.specs.PartsFit.{PartsFit}
 use Rattle.sift_report.specs.Headline.{HasForm, IsUnitsLine}
 use Rattle.sift_report.specs.Headline.{TellsClockSkew, TellsExactRemoval, TellsIdealOutputs, TellsNoFalseAccusation, TellsSameConfiguration, TellsSameInputs, TellsTrueMargin}

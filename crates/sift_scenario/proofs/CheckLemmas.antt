@@ -1,8 +1,8 @@
 -- Tables that are checked one after another.
 use Rattle.std.proofs.Common.{◌≡◌, ◌<◌, ℕ, List, length, get_or, map, take}
+use Rattle.std.specs.List.{All}
 use Rattle.sift_base.specs.declared.stop.Stop.{Stop}
 use Rattle.sift_base.specs.declared.stop.Stop.TheVariants as stop
-use Rattle.std.specs.List.{All}
 use Rattle.sift_base.specs.Shapes.{AllShapes}
 use Rattle.sift_table.specs.Rules.{IsGood}
 use Rattle.sift_table.specs.Schedule.{Schedule}

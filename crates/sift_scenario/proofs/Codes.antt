@@ -7,17 +7,17 @@ use Rattle.std.proofs.lemmas.Option.{slice_get_within}
 use Rattle.std.specs.List.{sum}
 use Rattle.sift_code.specs.Bound.{kept}
 use Rattle.sift_code.specs.Refusal.{Program}
-use Rattle.sift_compile.specs.Length.{code_limit, task_length, task_steps}
-use Rattle.sift_compile.specs.Tasks.{AreCodesOf, IsCodeOf}
 use Rattle.sift_lang.specs.Sound.{IsSound}
 use Rattle.sift_lang.specs.Tree.{TaskTree}
-use Rattle.sift_parse.proofs.lemmas.Sound.{has_size, task_is_sound}
+use Rattle.sift_document.specs.laws.Places.{pushed}
+use Rattle.sift_compile.specs.Length.{code_limit, task_length, task_steps}
+use Rattle.sift_compile.specs.Tasks.{AreCodesOf, IsCodeOf}
 use Rattle.sift_parse.specs.Outcome.{AreNames}
 use Rattle.sift_parse.specs.Roll.{first_word, Roll}
-use Rattle.sift_document.specs.laws.Places.{pushed}
-use Rattle.sift_scenario.proofs.Programs.{sound_tree}
+use Rattle.sift_parse.proofs.lemmas.Sound.{has_size, task_is_sound}
 use Rattle.sift_scenario.specs.Program.{AreAllowed, IsTreeOf, steps_left}
 use Rattle.sift_scenario.specs.Task.{Form, linear, text}
+use Rattle.sift_scenario.proofs.Programs.{sound_tree}
 
 -- a tree of a form is sound
 pub sound_form : (r : Roll) (form : Form) (tree : TaskTree) → AreNames r → r.this < length r.sizes → IsTreeOf r form tree → IsSound (length r.sensors) (sum r.sizes) tree

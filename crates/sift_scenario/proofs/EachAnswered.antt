@@ -1,47 +1,47 @@
 -- No document is without an answer: it states a mission, or is refused.
 use Rattle.std.proofs.Common.{◌≡◌, ◌≢◌, ◌<◌, ◌≤◌, ◌⊎◌, inl, inr, ℕ, zero, suc, List, [], length, Option, Some, None, refl, sym, ◌∷◌, ◌++◌, get_or, take, arith, length-append}
-use Rattle.sift_base.specs.declared.stop.Stop.TheVariants as stop
 use Rattle.std.proofs.lemmas.Bool.{cases_lt}
 use Rattle.std.proofs.lemmas.Option.{slice_get-get_or}
 use Rattle.std.specs.List.{slice_get}
 use Rattle.toml.specs.Data.{Members, no_members}
-use Rattle.sift_compile.specs.Length.{code_limit, task_length, task_steps}
+use Rattle.std.specs.List.{All}
+use Rattle.sift_base.specs.declared.stop.Stop.TheVariants as stop
+use Rattle.sift_base.specs.Shapes.{AllShapes}
 use Rattle.sift_lang.specs.Tree.{TaskTree}
+use Rattle.sift_document.specs.Rules.{EachMatches, AreKept}
+use Rattle.sift_table.specs.Rules as tables
+use Rattle.sift_table.specs.Schedule.{Schedule}
+use Rattle.sift_document.specs.laws.Places.{matches_more}
+use Rattle.sift_script.proofs.lemmas.Answered.{scripts_are_answered}
+use Rattle.sift_table.proofs.lemmas.Answered.{tables_are_answered}
+use Rattle.sift_compile.specs.Length.{code_limit, task_length, task_steps}
 use Rattle.sift_parse.specs.declared.stop.ParseStop.{ParseStop}
 use Rattle.sift_parse.specs.declared.stop.ParseStop.TheVariants as parse
-use Rattle.sift_parse.proofs.lemmas.Answered.{no_text_is_unanswered}
 use Rattle.sift_parse.specs.Answer as texts
 use Rattle.sift_parse.specs.Roll.{Roll, first_word}
 use Rattle.sift_parse.specs.Outcome.{linear_tree}
-use Rattle.sift_document.specs.laws.Places.{matches_more}
-use Rattle.sift_document.specs.Rules.{EachMatches, AreKept}
+use Rattle.sift_program.specs.Program.{ProgramTree}
+use Rattle.sift_parse.proofs.lemmas.Answered.{no_text_is_unanswered}
+use Rattle.sift_mission.specs.Data.{MissionData, shapes_in}
+use Rattle.sift_sections.specs.laws.Decided.{all_more, at_most}
+use Rattle.sift_scenario.specs.Laws.{HasAnswer, a_mission, a_refusal, NoDocumentIsUnanswered}
+use Rattle.sift_scenario.specs.Mission.{IsStated, IsLawful}
+use Rattle.sift_scenario.specs.Program.{AreAllowed, IsProgramOf, IsTreeOf, roll_for, steps_left, turn_of}
+use Rattle.sift_scenario.specs.Refusal.{IsFirstRefused, IsNoTask, IsOver, refusal_of, told_number}
+use Rattle.sift_scenario.specs.Root.{frames_of, period_of, units_of}
+use Rattle.sift_scenario.specs.Sensor.{sensor_names}
+use Rattle.sift_scenario.specs.Task.{AreForms, Form, HasForm, linear, tasks_of, text, task_rules}
+use Rattle.sift_scenario.specs.declared.refused.Refused.{Refused}
+use Rattle.sift_scenario.specs.declared.refused.Refused.TheVariants.{Scenario, Task, Table, Script}
+use Rattle.sift_scenario.specs.Refusal.{IsFirstBadTable, IsRefusedWith}
 use Rattle.sift_scenario.proofs.Codes.{allowed_more}
 use Rattle.sift_scenario.proofs.FirstBroken.{kept_or_broken}
 use Rattle.sift_scenario.proofs.Known.{form_known}
 use Rattle.sift_scenario.proofs.OneMission.{data_from}
 use Rattle.sift_scenario.proofs.TaskRefusals.{text_refused_by}
 use Rattle.sift_scenario.proofs.Turns.{code_first, text_first}
-use Rattle.sift_scenario.specs.Laws.{HasAnswer, a_mission, a_refusal, NoDocumentIsUnanswered}
-use Rattle.sift_scenario.specs.Mission.{IsStated, IsLawful}
-use Rattle.sift_scenario.specs.Program.{AreAllowed, IsProgramOf, IsTreeOf, roll_for, steps_left, turn_of}
-use Rattle.sift_scenario.specs.Refusal.{IsFirstRefused, IsNoTask, IsOver, refusal_of, told_number}
-use Rattle.sift_sections.specs.laws.Decided.{all_more, at_most}
 use Rattle.sift_scenario.proofs.Themes.{kept_themes}
-use Rattle.sift_scenario.specs.Root.{frames_of, period_of, units_of}
-use Rattle.sift_scenario.specs.Sensor.{sensor_names}
-use Rattle.sift_scenario.specs.Task.{AreForms, Form, HasForm, linear, tasks_of, text, task_rules}
-use Rattle.sift_base.specs.Shapes.{AllShapes}
-use Rattle.sift_program.specs.Program.{ProgramTree}
-use Rattle.sift_script.proofs.lemmas.Answered.{scripts_are_answered}
-use Rattle.sift_table.proofs.lemmas.Answered.{tables_are_answered}
-use Rattle.sift_table.specs.Rules as tables
-use Rattle.sift_table.specs.Schedule.{Schedule}
-use Rattle.sift_mission.specs.Data.{MissionData, shapes_in}
-use Rattle.sift_scenario.specs.declared.refused.Refused.{Refused}
-use Rattle.sift_scenario.specs.declared.refused.Refused.TheVariants.{Scenario, Task, Table, Script}
-use Rattle.std.specs.List.{All}
 use Rattle.sift_scenario.proofs.Named.{BreaksForms, all_starts}
-use Rattle.sift_scenario.specs.Refusal.{IsFirstBadTable, IsRefusedWith}
 
 -- an option that isn't none has a value
 value_of : {A : Type 0} (o : Option A) → o ≢ None → (x : A) × (o ≡ Some x)

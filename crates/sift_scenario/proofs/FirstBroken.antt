@@ -8,15 +8,15 @@ use Rattle.sift_base.specs.Shapes.{task_limit}
 use Rattle.sift_document.specs.Document.{tables_in, IsTableOf}
 use Rattle.sift_document.specs.Rules.{AreKept, BreaksFirst, Rule, rule}
 use Rattle.sift_sections.specs.laws.Decided.{Decided, at_most, both, either, first_place, holds, negated, nothing, same_number}
-use Rattle.sift_scenario.proofs.Known.{form_known, new_name_of}
 use Rattle.sift_sections.specs.laws.KnownEntries.{known_keys, known_table}
+use Rattle.sift_sections.proofs.lemmas.RulesDecided.{AreDecided, IsDecided, clock_known, decided_all, fault_known, later_table_known, of_array, of_each, of_none, table_known}
 use Rattle.sift_scenario.specs.Mission.{rules_of}
 use Rattle.sift_scenario.specs.Laws.{RulesAreKeptOrBroken}
 use Rattle.sift_scenario.specs.Root.{frames_of, period_of, root_keys, root_rules, units_of, version_of}
 use Rattle.sift_scenario.specs.Sensor.{sensor_rules, words_of}
-use Rattle.sift_scenario.proofs.Named.{sensor_keys, task_keys, themes_for}
 use Rattle.sift_scenario.specs.Task.{HasForm, IsNewName, counts_of, name_of, start_words, task_entries, tasks_of, BreaksNames, BreaksTasks, task_rules}
-use Rattle.sift_sections.proofs.lemmas.RulesDecided.{AreDecided, IsDecided, clock_known, decided_all, fault_known, later_table_known, of_array, of_each, of_none, table_known}
+use Rattle.sift_scenario.proofs.Known.{form_known, new_name_of}
+use Rattle.sift_scenario.proofs.Named.{sensor_keys, task_keys, themes_for}
 
 -- so all are kept, or one is the first that is broken
 kept_or_first : (rules : List Rule) → AreDecided rules → AreKept rules ⊎ ((number : ℕ) × (place : ℕ) × BreaksFirst rules number place)

@@ -7,27 +7,27 @@ use Rattle.toml.specs.Data.{Members, get_member}
 use Rattle.sift_base.specs.Layout.{least_units}
 use Rattle.sift_base.specs.Units.{unit_limit}
 use Rattle.sift_base.specs.declared.layout.Layout.{Layout}
-use Rattle.sift_program.specs.Program.{IsSoundProgram}
 use Rattle.sift_script.specs.Rules as scripts
 use Rattle.sift_script.specs.Script.{FaultScript}
 use Rattle.sift_table.specs.Schedule.{Schedule}
+use Rattle.sift_document.specs.laws.Order.{AreAllKept}
+use Rattle.sift_document.specs.laws.Numbers.{between_at}
+use Rattle.sift_program.specs.Program.{IsSoundProgram}
 use Rattle.sift_mission.specs.Data.{Clocks, MissionData}
 use Rattle.sift_mission.specs.PartsFit.{AreClocks, AreTables, HasWords, PartsFit, frame_limit, table_at}
-use Rattle.sift_document.specs.laws.Order.{AreAllKept}
-use Rattle.sift_scenario.proofs.Clocks.{clocks_fit}
-use Rattle.sift_document.specs.laws.Numbers.{between_at}
-use Rattle.sift_scenario.proofs.Periods.{period_between}
-use Rattle.sift_scenario.proofs.Sensing.{as_many_sensors, few_sensors, words_fit}
 use Rattle.sift_sections.proofs.lemmas.Sizes.{IsSized, schedule_at, schedules_long, schedules_sized}
-use Rattle.sift_scenario.proofs.SoundPrograms.{stated_is_sound}
-use Rattle.sift_scenario.proofs.Starts.{starts_long}
-use Rattle.sift_scenario.proofs.Themes.{kept_themes}
 use Rattle.sift_scenario.specs.Mission.{HasGoodTables, IsStated}
 use Rattle.sift_scenario.specs.Laws.{StatedMissionsFit}
 use Rattle.sift_scenario.specs.Root.{version_of}
 use Rattle.sift_scenario.specs.Sensor.{sensor_names}
-use Rattle.sift_scenario.proofs.Named.{themes_for}
 use Rattle.sift_scenario.specs.Task.{counts_of, name_of, task_entries, tasks_of}
+use Rattle.sift_scenario.proofs.Clocks.{clocks_fit}
+use Rattle.sift_scenario.proofs.Periods.{period_between}
+use Rattle.sift_scenario.proofs.Sensing.{as_many_sensors, few_sensors, words_fit}
+use Rattle.sift_scenario.proofs.SoundPrograms.{stated_is_sound}
+use Rattle.sift_scenario.proofs.Starts.{starts_long}
+use Rattle.sift_scenario.proofs.Themes.{kept_themes}
+use Rattle.sift_scenario.proofs.Named.{themes_for}
 
 module _
     (document : Members) (d : MissionData) (stated : IsStated document d) (good_tables : HasGoodTables d) (good_script : scripts.IsGood d.script) where

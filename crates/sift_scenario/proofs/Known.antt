@@ -2,10 +2,10 @@
 use Rattle.std.proofs.Common.{◌≡◌, inl, inr, ℕ, List, [], ◌∷◌, length, Option, Some, None, refl, sym, subst, ◌∙◌, arith}
 use Rattle.std.specs.Prelude.{codes, option_and_then}
 use Rattle.toml.specs.Data.{Data, Members, as_str, get_member}
-use Rattle.sift_base.specs.Name.{HasNameForm, IsName, IsNameByte, keywords}
 use Rattle.std.specs.Str.{byte}
-use Rattle.sift_document.specs.laws.ReadEntries.{array_between-long}
+use Rattle.sift_base.specs.Name.{HasNameForm, IsName, IsNameByte, keywords}
 use Rattle.sift_document.specs.Document.{read_at, word_array, word_value}
+use Rattle.sift_document.specs.laws.ReadEntries.{array_between-long}
 use Rattle.sift_sections.specs.laws.Decided.{Decided, among, at_most, both, each, either, negated, nothing, same_number, same_option, same_text}
 use Rattle.sift_scenario.specs.Task.{Form, HasForm, IsNewName, linear, name_of, task_outputs, text}
 

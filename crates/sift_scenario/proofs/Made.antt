@@ -1,27 +1,23 @@
 -- The mission that entries, their program, tables and a script make.
 use Rattle.std.proofs.Common.{◌≡◌, ◌≤◌, ℕ, List, length, map, sym, ap, subst, ◌∙◌, arith}
-use Rattle.sift_base.specs.Stop.{IfRefused}
-use Rattle.sift_base.specs.declared.stop.Stop.{Stop}
 use Rattle.std.proofs.lemmas.List.{length-map}
 use Rattle.std.specs.List.{All}
 use Rattle.std.specs.Prelude.{codes}
 use Rattle.toml.specs.Data.{Members, get_member}
+use Rattle.sift_base.specs.Stop.{IfRefused}
+use Rattle.sift_base.specs.declared.stop.Stop.{Stop}
 use Rattle.sift_base.specs.Layout.{IsLayout, least_units}
 use Rattle.sift_base.specs.Shapes.{AllShapes}
 use Rattle.sift_base.specs.Units.{unit_limit}
 use Rattle.sift_base.specs.declared.layout.Layout.{Layout}
-use Rattle.sift_compile.specs.Tasks.{AreCodesOf}
-use Rattle.sift_program.specs.Program.{program_of, IsSoundProgram, program_shapes}
 use Rattle.sift_script.specs.Rules as scripts
 use Rattle.sift_script.specs.Script.{FaultScript}
 use Rattle.sift_table.specs.Rules.{IsGood}
 use Rattle.sift_table.specs.Schedule.{Schedule, schedule_of}
-use Rattle.sift_mission.specs.PartsFit.{PartsFit}
-use Rattle.sift_scenario.proofs.Assembling.{is_stated, layout_read, made, script_read, script_refused, table_refused}
-use Rattle.sift_scenario.proofs.Fitting.{fit}
 use Rattle.sift_document.specs.laws.Numbers.{between_at}
-use Rattle.sift_scenario.proofs.Sensing.{as_many_sensors, few_sensors}
-use Rattle.sift_scenario.proofs.SoundPrograms.{stated_is_sound}
+use Rattle.sift_compile.specs.Tasks.{AreCodesOf}
+use Rattle.sift_program.specs.Program.{program_of, IsSoundProgram, program_shapes}
+use Rattle.sift_mission.specs.PartsFit.{PartsFit}
 use Rattle.sift_scenario.specs.Mission.{HasGoodTables, IsMission, IsStated}
 use Rattle.sift_scenario.specs.Reading.{IsReadOf, IsRunningOf}
 use Rattle.sift_scenario.specs.Refusal.{IsRefusedWith}
@@ -30,6 +26,10 @@ use Rattle.sift_scenario.specs.Testing.{RefusesScript, RefusesTable}
 use Rattle.sift_scenario.specs.declared.document.Entries.{Entries}
 use Rattle.sift_scenario.specs.declared.program.Running.{Running}
 use Rattle.sift_scenario.specs.declared.refused.Refused.{Refused}
+use Rattle.sift_scenario.proofs.Assembling.{is_stated, layout_read, made, script_read, script_refused, table_refused}
+use Rattle.sift_scenario.proofs.Fitting.{fit}
+use Rattle.sift_scenario.proofs.Sensing.{as_many_sensors, few_sensors}
+use Rattle.sift_scenario.proofs.SoundPrograms.{stated_is_sound}
 
 module _ (document : Members) (entries : Entries) (running : Running) (read : IsReadOf document entries) (runs : IsRunningOf document running) where
   -- there are as many sensors as names of sensors, and they are few

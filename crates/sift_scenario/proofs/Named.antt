@@ -3,18 +3,18 @@ use Rattle.std.specs.Prelude.{codes, ℕ, ◌≡◌, List, [], ◌∷◌, None, 
 use Rattle.std.specs.List.{flat_map}
 use Rattle.toml.specs.Data.{Members, get_member}
 use Rattle.sift_document.specs.Rules.{AreMatched, HoldsOf, Rule}
-use Rattle.sift_sections.specs.Clock.{clock_rules}
-use Rattle.sift_sections.specs.Fault.{fault_rules}
 use Rattle.sift_lang.specs.Tree.{TaskTree}
 use Rattle.sift_parse.specs.Roll.{Roll}
+use Rattle.sift_sections.specs.Clock.{clock_rules}
+use Rattle.sift_sections.specs.Fault.{fault_rules}
+use Rattle.sift_sections.specs.Table.{table_rules}
+use Rattle.sift_sections.specs.laws.Named.{later_table_rules}
 use Rattle.sift_scenario.specs.Program.{IsTreeOf, roll_for, turn_of}
 use Rattle.sift_scenario.specs.Refusal.{IsFirstRefused}
 use Rattle.sift_scenario.specs.declared.refused.Refused.{Refused}
 use Rattle.sift_scenario.specs.Root.{root_rules, version_of}
 use Rattle.sift_scenario.specs.Sensor.{sensor_rules}
-use Rattle.sift_sections.specs.Table.{table_rules}
 use Rattle.sift_scenario.specs.Task.{AreForms, Form, HasForm, start_words, task_rules}
-use Rattle.sift_sections.specs.laws.Named.{later_table_rules}
 
 -- ---- keys and values
 

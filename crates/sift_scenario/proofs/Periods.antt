@@ -2,14 +2,14 @@
 use Rattle.std.proofs.Common.{◌≡◌, ◌<◌, ◌≤◌, ◌+◌, ◌*◌, ℕ, length, Option, Some, None, inl, refl, arith}
 use Rattle.std.specs.Prelude.{codes}
 use Rattle.toml.specs.Data.{Data, Members, get_member}
+use Rattle.sift_base.specs.Shapes.{task_limit}
 use Rattle.sift_table.specs.Rules.{report_lead}
 use Rattle.sift_table.specs.Schedule.{agreed_in, hearing_delay, shortest_period}
-use Rattle.sift_base.specs.Shapes.{task_limit}
-use Rattle.sift_mission.specs.PartsFit.{longest_period}
 use Rattle.sift_document.specs.Document.{integer_between}
 use Rattle.sift_document.specs.Rules.{AreKept}
-use Rattle.sift_sections.specs.laws.Decided.{at_most, both, stable}
 use Rattle.sift_document.specs.laws.Numbers.{between, read_by}
+use Rattle.sift_mission.specs.PartsFit.{longest_period}
+use Rattle.sift_sections.specs.laws.Decided.{at_most, both, stable}
 use Rattle.sift_scenario.specs.Root.{period_of}
 use Rattle.sift_scenario.specs.Task.{task_entries, task_rules}
 

@@ -8,13 +8,13 @@ use Rattle.std.specs.Prelude.{codes, option_and_then, unwrap_or}
 use Rattle.toml.specs.Data.{Data, Members, get_member, no_members}
 use Rattle.sift_base.specs.Layout.{word_limit}
 use Rattle.sift_base.specs.Name.{IsName}
+use Rattle.sift_document.specs.Document.{word_array, word_value}
+use Rattle.sift_document.specs.laws.ReadEntries.{array_between-long}
 use Rattle.sift_parse.specs.Answer.{HasSize}
 use Rattle.sift_parse.specs.Outcome.{AreDistinct, AreNames}
-use Rattle.sift_document.specs.laws.ReadEntries.{array_between-long}
-use Rattle.sift_document.specs.Document.{word_array, word_value}
 use Rattle.sift_scenario.specs.Program.{roll_for, turn_of}
-use Rattle.sift_scenario.proofs.Named.{BreaksStarts}
 use Rattle.sift_scenario.specs.Task.{counts_of, name_of, names_of, start_words, task_outputs, BreaksNames}
+use Rattle.sift_scenario.proofs.Named.{BreaksStarts}
 
 -- within a list the default doesn't matter
 any_default : (xs : List ℕ) (k d e : ℕ) → k < length xs → get_or xs k d ≡ get_or xs k e

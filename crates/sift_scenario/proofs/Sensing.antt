@@ -5,22 +5,22 @@ use Rattle.std.proofs.lemmas.Option.{slice_get-get_or}
 use Rattle.std.specs.List.{All}
 use Rattle.std.specs.Prelude.{codes, option_and_then, unwrap_or}
 use Rattle.toml.specs.Data.{Data, Members, get_member, no_members}
-use Rattle.sift_parse.specs.Outcome.{AreDistinct}
-use Rattle.sift_mission.specs.PartsFit.{HasWords, sensed_limit}
 use Rattle.sift_base.specs.Layout.{sensor_limit}
-use Rattle.sift_document.specs.laws.Arrays.{array_entries}
-use Rattle.sift_document.specs.laws.ReadEntries.{array_between-long}
 use Rattle.sift_document.specs.Document.{IsArrayOf, IsTableOf, entries_of, members_of, word_array, word_value, tables_in}
 use Rattle.sift_document.specs.Rules.{AreKept, BreaksEntries, IsKept, rule}
+use Rattle.sift_document.specs.laws.Arrays.{array_entries}
+use Rattle.sift_document.specs.laws.ReadEntries.{array_between-long}
+use Rattle.sift_parse.specs.Outcome.{AreDistinct}
+use Rattle.sift_mission.specs.PartsFit.{HasWords, sensed_limit}
 use Rattle.sift_sections.specs.laws.Decided.{stable}
 use Rattle.sift_sections.specs.laws.KnownEntries.{known_array}
-use Rattle.sift_scenario.proofs.Rolls.{distinct}
-use Rattle.sift_scenario.proofs.Themes.{kept_themes}
 use Rattle.sift_scenario.specs.Mission.{IsLawful}
 use Rattle.sift_scenario.specs.Root.{units_of}
 use Rattle.sift_scenario.specs.Sensor.{sensor_names, sensor_rules, sensor_words, words_of}
-use Rattle.sift_scenario.proofs.Named.{sensor_keys}
 use Rattle.sift_scenario.specs.Task.{name_of}
+use Rattle.sift_scenario.proofs.Rolls.{distinct}
+use Rattle.sift_scenario.proofs.Themes.{kept_themes}
+use Rattle.sift_scenario.proofs.Named.{sensor_keys}
 
 -- there are as many words as names
 pub as_many_sensors : (document : Members) → length (sensor_words document) ≡ length (sensor_names document)

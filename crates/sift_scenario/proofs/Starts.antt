@@ -8,8 +8,8 @@ use Rattle.std.specs.List.{flat_map, sum}
 use Rattle.std.specs.Prelude.{unwrap_or}
 use Rattle.toml.specs.Data.{Members}
 use Rattle.sift_document.specs.laws.Places.{map_map}
-use Rattle.sift_scenario.proofs.Named.{all_starts}
 use Rattle.sift_scenario.specs.Task.{counts_of, name_of, names_of, start_words, task_outputs}
+use Rattle.sift_scenario.proofs.Named.{all_starts}
 
 module _ {B : Type 0} (words : B → List ℕ) (tasks : List Members) (starts : List B) (read : map (λ ws. Some (words ws)) starts ≡ map start_words tasks) where
   -- there are as many

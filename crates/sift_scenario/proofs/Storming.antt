@@ -6,17 +6,17 @@ use Rattle.std.proofs.lemmas.List.{length-map}
 use Rattle.std.proofs.lemmas.Option.{get_or_from_slice_get, slice_get-map, slice_get_within}
 use Rattle.std.specs.List.{slice_get}
 use Rattle.std.specs.Prelude.{option_map, unwrap_or, codes}
+use Rattle.toml.specs.Data.{Members, get_member}
 use Rattle.sift_base.specs.Units.{has}
 use Rattle.sift_script.specs.Faults.{storm_from, storm_of}
 use Rattle.sift_script.specs.Rules.{fault_at}
 use Rattle.sift_script.specs.Script.{Change, Failing, Fault, FaultScript, changing, turning}
-use Rattle.toml.specs.Data.{Members, get_member}
 use Rattle.sift_document.specs.Rules.{HoldsOf}
-use Rattle.sift_scenario.proofs.Themes.{kept_themes}
-use Rattle.sift_sections.specs.Fault.{fault_in, from_of, stated_storm, unit_of}
 use Rattle.sift_document.specs.Document.{tables_in}
+use Rattle.sift_sections.specs.Fault.{fault_in, from_of, stated_storm, unit_of}
 use Rattle.sift_sections.specs.laws.Named.{failing_from, IsHeadless, BreaksHeads}
 use Rattle.sift_scenario.specs.Laws.{IsStormOf, StormsAreStated}
+use Rattle.sift_scenario.proofs.Themes.{kept_themes}
 
 -- ---- one fault
 

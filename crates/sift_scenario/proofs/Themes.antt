@@ -1,14 +1,14 @@
 -- The rules of a document by what they speak of.
 use Rattle.std.proofs.Common.{◌≡◌, ℕ, Some, sym, ap, subst}
-use Rattle.sift_base.specs.declared.stop.Stop.{Stop}
 use Rattle.std.specs.Prelude.{unwrap_or}
 use Rattle.toml.specs.Data.{Members}
-use Rattle.sift_document.specs.laws.Order.{AreAllKept, StopsIn, kept_each, kept_joined, stopped_in}
+use Rattle.sift_base.specs.declared.stop.Stop.{Stop}
 use Rattle.sift_document.specs.Testing.{RefusesFirst}
 use Rattle.sift_document.specs.declared.rule.BrokenRule.{BrokenRule}
+use Rattle.sift_document.specs.laws.Order.{AreAllKept, StopsIn, kept_each, kept_joined, stopped_in}
 use Rattle.sift_scenario.specs.Mission.{IsLawful, rules_of}
-use Rattle.sift_scenario.proofs.Named.{themes_for}
 use Rattle.sift_scenario.specs.Root.{root_rules, units_of, version_of}
+use Rattle.sift_scenario.proofs.Named.{themes_for}
 
 module _ (document : Members) (units : ℕ) (is : units_of document ≡ Some units) where
   -- the number of units that is read is the one that is stated

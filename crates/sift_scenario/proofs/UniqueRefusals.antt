@@ -1,32 +1,28 @@
 -- A document that states a mission isn't refused, and one that is refused is refused in one way.
 use Rattle.std.proofs.Common.{◌≡◌, ◌<◌, inl, inr, ℕ, List, length, get_or, take, Some, Result, Ok, Err, IfOk, IfErr, refl, sym, ap, subst, ◌∙◌, arith}
-use Rattle.sift_base.specs.Stop.{IfRefused}
-use Rattle.sift_base.specs.declared.stop.Stop.{Stop}
-use Rattle.sift_base.specs.declared.stop.Stop.TheVariants as stop
 use Rattle.std.proofs.lemmas.Bool.{cases_order}
 use Rattle.std.proofs.lemmas.List.{get_or-take, length-take, take_all}
 use Rattle.std.proofs.lemmas.Option.{get_or_from_slice_get, slice_get_within}
 use Rattle.std.specs.List.{All, slice_get}
 use Rattle.toml.specs.Data.{Members}
+use Rattle.sift_base.specs.Stop.{IfRefused}
+use Rattle.sift_base.specs.declared.stop.Stop.{Stop}
+use Rattle.sift_base.specs.declared.stop.Stop.TheVariants as stop
 use Rattle.sift_base.specs.Shapes.{AllShapes}
 use Rattle.sift_lang.specs.Tree.{TaskTree}
-use Rattle.sift_parse.proofs.lemmas.OneAnswer.{one_answer}
-use Rattle.sift_parse.specs.Outcome.{Tells}
-use Rattle.sift_parse.specs.Roll.{Roll}
-use Rattle.sift_script.proofs.lemmas.Refusals as script_laws
 use Rattle.sift_script.specs.Rules as scripts
-use Rattle.sift_table.proofs.lemmas.Refusals as table_laws
 use Rattle.sift_table.specs.Rules as tables
 use Rattle.sift_table.specs.Schedule.{Schedule}
+use Rattle.sift_document.specs.Testing.{OnlyRefuses}
+use Rattle.sift_script.proofs.lemmas.Refusals as script_laws
+use Rattle.sift_table.proofs.lemmas.Refusals as table_laws
+use Rattle.sift_document.specs.laws.OneBroken.{kept_unbroken, one_broken}
+use Rattle.sift_parse.specs.Outcome.{Tells}
+use Rattle.sift_parse.specs.Roll.{Roll}
+use Rattle.sift_parse.proofs.lemmas.OneAnswer.{one_answer}
 use Rattle.sift_mission.specs.Data.{MissionData, shapes_in}
 use Rattle.sift_mission.specs.Parts.{data_of}
 use Rattle.sift_mission.specs.declared.parts.MissionParts.{MissionParts}
-use Rattle.sift_document.specs.laws.OneBroken.{kept_unbroken, one_broken}
-use Rattle.sift_document.specs.Testing.{OnlyRefuses}
-use Rattle.sift_scenario.proofs.Named.{TasksAreRefused}
-use Rattle.sift_scenario.proofs.OneMission.{one_stated}
-use Rattle.sift_scenario.proofs.UniqueForms.{one_forms, one_tree}
-use Rattle.sift_scenario.proofs.Unrefused.{first_trees, no_want, one_entry, tree_unrefused, unrefused_among}
 use Rattle.sift_scenario.specs.Mission.{rules_of, HasGoodTables, IsMission, IsStated}
 use Rattle.sift_scenario.specs.Laws.{MissionsAreAccepted, OneRefusal}
 use Rattle.sift_scenario.specs.Program.{roll_for, steps_left, turn_of}
@@ -35,6 +31,10 @@ use Rattle.sift_scenario.specs.Sensor.{sensor_names}
 use Rattle.sift_scenario.specs.Task.{Form, text, tasks_of}
 use Rattle.sift_scenario.specs.declared.refused.Refused.{Refused}
 use Rattle.sift_scenario.specs.declared.refused.Refused.TheVariants.{Scenario, Task, Table, Script}
+use Rattle.sift_scenario.proofs.Named.{TasksAreRefused}
+use Rattle.sift_scenario.proofs.OneMission.{one_stated}
+use Rattle.sift_scenario.proofs.UniqueForms.{one_forms, one_tree}
+use Rattle.sift_scenario.proofs.Unrefused.{first_trees, no_want, one_entry, tree_unrefused, unrefused_among}
 
 -- ---- what is stated isn't refused
 

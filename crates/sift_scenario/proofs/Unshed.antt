@@ -5,12 +5,12 @@ use Rattle.std.specs.Prelude.{codes, unwrap_or}
 use Rattle.toml.specs.Data.{get_member}
 use Rattle.sift_table.specs.Schedule.{Schedule}
 use Rattle.sift_document.specs.Rules.{IsKept, rule}
-use Rattle.sift_scenario.proofs.Themes.{kept_themes}
+use Rattle.sift_sections.specs.laws.Named.{BreaksTables}
+use Rattle.sift_sections.proofs.lemmas.Unshed.{schedules_unshed}
 use Rattle.sift_scenario.specs.Laws.{VersionOneShedsNothing}
 use Rattle.sift_scenario.specs.Root.{version_of}
-use Rattle.sift_sections.specs.laws.Named.{BreaksTables}
 use Rattle.sift_scenario.specs.Task.{task_entries}
-use Rattle.sift_sections.proofs.lemmas.Unshed.{schedules_unshed}
+use Rattle.sift_scenario.proofs.Themes.{kept_themes}
 
 -- no table of a mission sheds a task where a document of version 1 states the mission
 pub unshed : VersionOneShedsNothing

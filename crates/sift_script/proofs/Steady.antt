@@ -10,9 +10,9 @@ use Rattle.std.specs.Prelude.{◌==◌, ◌&&◌, nat_le, if◌then◌else◌, o
 use Rattle.sift_base.specs.Units.{has}
 use Rattle.sift_script.specs.Faults.{changes_in, fault_of_unit, has_come, replacement_by, storm_from, works}
 use Rattle.sift_script.specs.Laws.{FaultsAreForGood, OneUnitIsSteady, StormsComeInTheMission, WorkingUnitsHaveNotTurned, WorkingUnitsSayTheirWords}
-use Rattle.sift_script.proofs.Views.{no_fault}
 use Rattle.sift_script.specs.Rules.{IsGood}
 use Rattle.sift_script.specs.Script.{Failing, Fault, FaultScript, changing, turning}
+use Rattle.sift_script.proofs.Views.{no_fault}
 
 -- the fault is unit u's, and has come by frame f
 abbrev is_faulted_by : ℕ → ℕ → Fault → Bool

@@ -1,16 +1,16 @@
 -- Where the test of a clock stops, and where it doesn't; and the clocks that are read.
 use Rattle.std.proofs.Common.{◌≡◌, ℕ, ℤ, pos, List, Some, refl, sym, ap, subst}
-use Rattle.sift_base.specs.declared.stop.Stop.{Stop}
 use Rattle.toml.specs.Data.{Data, Members}
-use Rattle.sift_document.specs.laws.Order.{kept_joined, stopped, stopped_in}
+use Rattle.std.specs.Prelude.{unwrap_or}
+use Rattle.sift_base.specs.declared.stop.Stop.{Stop}
 use Rattle.sift_document.specs.Document.{members_of, IsTableOf}
 use Rattle.sift_document.specs.Rules.{AreKept, IsKept, rule, OfNoEntry}
 use Rattle.sift_document.specs.Testing.{RefusesBy, RefusesFirst}
 use Rattle.sift_document.specs.declared.rule.BrokenRule.{BrokenRule}
-use Rattle.std.specs.Prelude.{unwrap_or}
-use Rattle.sift_sections.specs.laws.Named.{BreaksStart, BreaksDrift, BreaksErrors, clock_themes}
+use Rattle.sift_document.specs.laws.Order.{kept_joined, stopped, stopped_in}
 use Rattle.sift_mission.specs.Data.{Clocks}
 use Rattle.sift_sections.specs.Clock.{clock_rules, clocks_in, drifts_of, error_of, errors_of, figure_rules, length_of, rate_of, skew_of, starts_of, unit_rules, clock_keys}
+use Rattle.sift_sections.specs.laws.Named.{BreaksStart, BreaksDrift, BreaksErrors, clock_themes}
 
 -- a value, and the table that it is
 module _

@@ -1,6 +1,5 @@
 -- The faults of a document: how they are read.
 use Rattle.std.proofs.Common.{◌≡◌, ◌<◌, ℕ, List, length, get_or, map, Option, Some, None, IfNone, IfSome, Result, Ok, Err, Bool, true, false, refl, sym, ap, subst, ◌∙◌}
-use Rattle.sift_base.specs.declared.stop.Stop.{Stop}
 use Rattle.toml.specs.Data.{Data, Members, get_member}
 use Rattle.std.proofs.lemmas.List.{length-map}
 use Rattle.std.proofs.lemmas.Option.{slice_get-get_or, slice_get-map}
@@ -8,18 +7,19 @@ use Rattle.std.specs.List.{slice_get}
 use Rattle.std.specs.Bool.{IsTrue}
 use Rattle.std.specs.Option.{is_some}
 use Rattle.std.specs.Prelude.{option_map, unwrap_or}
+use Rattle.sift_base.specs.declared.stop.Stop.{Stop}
 use Rattle.sift_script.specs.Script.{Change, Failing, Fault}
-use Rattle.sift_document.specs.laws.Order.{later, stopped}
-use Rattle.sift_document.specs.laws.Places.{map_map, taken}
 use Rattle.sift_document.specs.Document.{IsTableOf, tables_in}
 use Rattle.sift_document.specs.Rules.{AreKept, BreaksEntries, IsKept, rule}
 use Rattle.sift_document.specs.Testing.{RefusesFirst, Tests, TestsEach}
 use Rattle.sift_document.specs.declared.rule.BrokenRule.{BrokenRule}
+use Rattle.sift_document.specs.laws.Order.{later, stopped}
+use Rattle.sift_document.specs.laws.Places.{map_map, taken}
 use Rattle.sift_sections.specs.Fault.{StandsAlone, changes_of, fault_in, fault_limit, fault_rules, from_of, stated_storm, unit_of}
-use Rattle.sift_sections.specs.laws.Values.{read_values}
 use Rattle.sift_sections.specs.Reading.{AreFaultsRead}
-use Rattle.sift_sections.specs.laws.Named.{BreaksHeads, BreaksItems, BreaksStorms, BreaksWays, each_fault_rules, failing_from, fault_keys}
 use Rattle.sift_sections.specs.declared.fault.Head.{Head}
+use Rattle.sift_sections.specs.laws.Values.{read_values}
+use Rattle.sift_sections.specs.laws.Named.{BreaksHeads, BreaksItems, BreaksStorms, BreaksWays, each_fault_rules, failing_from, fault_keys}
 
 -- ---- the rules of the faults
 

@@ -1,13 +1,13 @@
 -- The figures of a clock are within their limits, and where the test of them stops.
 use Rattle.std.proofs.Common.{◌≡◌, ◌<◌, ◌≤◌, ◌+◌, ◌*◌, ℕ, Option, Some, None, arith}
 use Rattle.std.specs.Prelude.{codes, unwrap_or}
-use Rattle.sift_base.specs.declared.stop.Stop.{Stop}
 use Rattle.toml.specs.Data.{Data, Members, get_member}
+use Rattle.sift_base.specs.declared.stop.Stop.{Stop}
 use Rattle.sift_document.specs.Document.{integer_between}
-use Rattle.sift_document.specs.laws.Numbers.{between, between_at, read_by}
 use Rattle.sift_document.specs.Rules.{IsKept, OfNoEntry, rule}
 use Rattle.sift_document.specs.Testing.{RefusesBy}
 use Rattle.sift_document.specs.declared.rule.BrokenRule.{BrokenRule}
+use Rattle.sift_document.specs.laws.Numbers.{between, between_at, read_by}
 use Rattle.sift_sections.specs.Clock.{error_of, length_limit, length_of, rate_of, skew_of, tick_limit}
 
 -- a number that is read, or 0 where none is there, is at most the limit

@@ -3,8 +3,8 @@ use Rattle.std.proofs.Common.{◌≡◌, inl, inr, ℕ, List, Option, Some, None
 use Rattle.std.proofs.lemmas.Int.{by_lt_z, ints}
 use Rattle.std.specs.List.{All}
 use Rattle.std.specs.Prelude.{ℤ, pos, ◌≤ℤ◌, ◌+ℤ◌}
-use Rattle.sift_sections.specs.laws.Decided.{Decided, each, stable}
 use Rattle.sift_sections.specs.Clock.{StartTogether}
+use Rattle.sift_sections.specs.laws.Decided.{Decided, each, stable}
 
 -- the order of integers
 at_most_z : (a b : ℤ) → Decided (a ≤ℤ b)

@@ -3,11 +3,11 @@ use Rattle.std.proofs.Common.{◌≡◌, ◌≢◌, ◌<◌, inl, inr, ℕ, List
 use Rattle.std.specs.List.{All}
 use Rattle.std.specs.Prelude.{codes, ◌⊎◌}
 use Rattle.toml.specs.Data.{Members}
-use Rattle.sift_document.specs.laws.Places.{holds_here}
 use Rattle.sift_document.specs.Rules.{IsKept, rule}
+use Rattle.sift_document.specs.laws.Places.{holds_here}
 use Rattle.sift_sections.specs.Reading.{IsPartial}
-use Rattle.sift_sections.specs.laws.Named.{BreaksTimes}
 use Rattle.sift_sections.specs.Table.{positions_of, size_of, subframes_at}
+use Rattle.sift_sections.specs.laws.Named.{BreaksTimes}
 
 -- where the sizes are there, and the times are, what isn't read is the positions
 pub positionless :

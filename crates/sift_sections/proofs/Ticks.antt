@@ -6,11 +6,11 @@ use Rattle.std.specs.List.{All}
 use Rattle.std.specs.Prelude.{ℤ, pos, option_and_then, unwrap_or}
 use Rattle.toml.specs.Data.{Data, string, integer, float, boolean, datetime, array, table}
 use Rattle.sift_clock.specs.Distance.{IsWithin}
-use Rattle.sift_document.specs.laws.ReadEntries.{array_between-long, each_read-parts, of_length}
 use Rattle.sift_document.specs.Document.{array_between, array_of, each_read, list_of}
-use Rattle.sift_sections.specs.laws.Decided.{all_more}
+use Rattle.sift_document.specs.laws.ReadEntries.{array_between-long, each_read-parts, of_length}
 use Rattle.sift_document.specs.laws.Numbers.{read_by}
 use Rattle.sift_sections.specs.Clock.{ticks_within, unit_ticks}
+use Rattle.sift_sections.specs.laws.Decided.{all_more}
 
 -- ---- what is read
 

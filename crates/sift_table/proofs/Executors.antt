@@ -5,14 +5,14 @@ use Rattle.std.proofs.lemmas.List.Elements.{All-contains, recursion_from_All}
 use Rattle.std.specs.List.{AllByRecursion, range_with_len}
 use Rattle.sift_base.specs.Requirement.{AreMet}
 use Rattle.sift_base.specs.Shapes.{AllShapes, shape_at}
-use Rattle.sift_base.specs.laws.Counts.{IsBelowAll, count-cons}
 use Rattle.sift_base.specs.Units.{has, IsAscending}
 use Rattle.sift_base.specs.declared.slot.Slot.TheVariants.{Clock, Sense, RelaySense, Out, Report, RelayReport}
-use Rattle.sift_table.proofs.Words.{words_have_their_task}
+use Rattle.sift_base.specs.laws.Counts.{IsBelowAll, count-cons}
 use Rattle.sift_table.specs.Laws.{PositionsRunOneTaskAtATime, ShedTasksAreLeftOut, SlotsAreHeardInTime, TasksHaveThreeExecutors, TasksRunAfterTheirNeeds}
 use Rattle.sift_table.specs.Rules.{IsGood, IsLeftOut, rules_where}
 use Rattle.sift_table.specs.Schedule.{Schedule, polled_in, positions_of, run_in}
 use Rattle.sift_table.specs.Timing.{task_of}
+use Rattle.sift_table.proofs.Words.{words_have_their_task}
 
 -- a task that isn't shed meets the rules of its row
 run_row : (table : Schedule) (shapes : AllShapes) (t : ℕ) → IsGood table shapes → t < length shapes.tasks → has table.shed t ≡ false

@@ -4,8 +4,8 @@ use Rattle.std.proofs.lemmas.List.FromFn.{get_or-map-range_with_len, length-map-
 use Rattle.std.specs.List.{All, range_with_len}
 use Rattle.sift_base.specs.Requirement.{AreMet}
 use Rattle.sift_base.specs.Shapes.{AllShapes, AreShapes, shape_at}
-use Rattle.sift_base.specs.laws.Ranges.{range-ascends, range-below}
 use Rattle.sift_base.specs.Units.{IsAscending}
+use Rattle.sift_base.specs.laws.Ranges.{range-ascends, range-below}
 use Rattle.sift_table.specs.Laws.{PlainTablesAreGood}
 use Rattle.sift_table.specs.Rules.{ReadsPolledWords, SharesNoPosition, rules_where}
 use Rattle.sift_table.specs.Schedule.{plain_of, polled_in, positions_of, run_in}

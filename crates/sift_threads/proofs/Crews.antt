@@ -10,21 +10,21 @@ use Rattle.sift_base.specs.declared.layout.Layout.{Layout}
 use Rattle.sift_buffer.specs.Conduct.{fresh as fresh_conduct}
 use Rattle.sift_buffer.specs.Tables.{ranges_of}
 use Rattle.sift_buffer.specs.Views.{View, fresh_view}
-use Rattle.sift_mission.specs.Parts.{data_of, flown_of}
-use Rattle.sift_mission.specs.PartsFit.{PartsFit}
-use Rattle.sift_mission.specs.declared.parts.MissionParts.{MissionParts}
-use Rattle.sift_conduct.specs.declared.account.Account.{Account}
+use Rattle.sift_config.specs.laws.FirstUnits.{unit_low, low_unit}
 use Rattle.sift_ether.specs.Seating.{IsTokenBack}
 use Rattle.sift_ether.specs.Seats.{view_of}
 use Rattle.sift_ether.specs.Tokens.{IsMade}
 use Rattle.sift_ether.specs.declared.ether.Ether.{Ether}
 use Rattle.sift_ether.specs.declared.seat.EtherSeat.{EtherSeat}
 use Rattle.sift_ether.specs.declared.token.Token.{Token}
+use Rattle.sift_mission.specs.Parts.{data_of, flown_of}
+use Rattle.sift_mission.specs.PartsFit.{PartsFit}
+use Rattle.sift_mission.specs.declared.parts.MissionParts.{MissionParts}
+use Rattle.sift_conduct.specs.declared.account.Account.{Account}
 use Rattle.sift_unit.specs.Boards.{Drives, IsNewBoard, IsPortOf, NewBoardLaw}
 use Rattle.sift_unit.specs.Keeping.{IsFresh}
 use Rattle.sift_unit.specs.declared.board.Board.{Board}
 use Rattle.sift_core.specs.Machines.{AreNewBoards}
-use Rattle.sift_config.specs.laws.FirstUnits.{unit_low, low_unit}
 use Rattle.sift_threads.specs.Crews.{IsSeated, AreSeated, AreLeftOf}
 use Rattle.sift_threads.specs.Seats.{IsManned}
 use Rattle.sift_threads.specs.declared.seat.Seat.{Seat}

@@ -8,6 +8,12 @@ use Rattle.sift_base.specs.declared.layout.Layout.{Layout}
 use Rattle.sift_buffer.specs.Core.{Core}
 use Rattle.sift_buffer.specs.Journals.{Pages, no_pages}
 use Rattle.sift_buffer.specs.Tables.{ranges_of}
+use Rattle.sift_config.specs.laws.FirstUnits.{unit_low}
+use Rattle.sift_rogue.specs.Storms.{Call}
+use Rattle.sift_ether.specs.Landed.{HaveLanded}
+use Rattle.sift_ether.specs.Tokens.{IsMade, conduct_at}
+use Rattle.sift_ether.specs.declared.ether.Ether.{Ether}
+use Rattle.sift_ether.specs.declared.token.Token.{Token}
 use Rattle.sift_mission.specs.Data.{MissionData, FlownMission}
 use Rattle.sift_mission.specs.Fits.{Fits}
 use Rattle.sift_mission.specs.Flown.{flown}
@@ -16,16 +22,10 @@ use Rattle.sift_conduct.specs.Conduct.{Account, account_of}
 use Rattle.sift_conduct.specs.Acts.{BoardKeeps}
 use Rattle.sift_conduct.specs.Frames.{frames_before}
 use Rattle.sift_conduct.specs.declared.account.Account.{Account as TheAccount}
-use Rattle.sift_rogue.specs.Storms.{Call}
 use Rattle.sift_flight.specs.Homing.{HasComeHome, FlightsThatComeHomeAreRound}
 use Rattle.sift_flight.specs.Told.{told, no_account, accounts_of, IsLogged}
 use Rattle.sift_flight.specs.declared.flight.Flight.{Flight as TheFlight}
-use Rattle.sift_ether.specs.Landed.{HaveLanded}
-use Rattle.sift_ether.specs.Tokens.{IsMade, conduct_at}
-use Rattle.sift_ether.specs.declared.ether.Ether.{Ether}
-use Rattle.sift_ether.specs.declared.token.Token.{Token}
 use Rattle.sift_core.specs.Storms.{IsRoundByRogues}
-use Rattle.sift_config.specs.laws.FirstUnits.{unit_low}
 use Rattle.sift_threads.specs.Flown.{HaveFlown, HasFlown}
 use Rattle.sift_threads.specs.declared.flown.Flown.{Flown}
 

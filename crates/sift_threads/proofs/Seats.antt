@@ -2,10 +2,10 @@
 use Rattle.std.proofs.Common.{◌≡◌, ⊎_elim, ℕ, ◌+◌, ◌-◌, ◌<◌, ◌≤◌, List, [], ◌++◌, Option, Some, None, option_map, option_to_list, refl, sym, ap, ◌∙◌, subst, arith}
 use Rattle.sift_buffer.specs.Conduct.{Stray, never}
 use Rattle.sift_buffer.specs.Views.{View}
-use Rattle.sift_mission.specs.Data.{FlownMission}
-use Rattle.sift_mission.specs.Parts.{data_of}
 use Rattle.sift_rogue.specs.Storms.{Call, Started, StormsAddUp, Shoots, sifted, stray_of, StormsBy}
 use Rattle.sift_rogue.specs.declared.act.Act.{Act}
+use Rattle.sift_mission.specs.Data.{FlownMission}
+use Rattle.sift_mission.specs.Parts.{data_of}
 use Rattle.sift_unit.specs.Boards.{desk_of, Drives}
 use Rattle.sift_unit.specs.Down.{StrayLaw}
 use Rattle.sift_unit.specs.Stepping.{Steps}

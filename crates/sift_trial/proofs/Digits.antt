@@ -8,10 +8,10 @@ use Rattle.std.proofs.lemmas.List.FromFn.{get_or-range_with_len, length-range_wi
 use Rattle.std.specs.Fmt.{decimal}
 use Rattle.std.specs.List.{All, flat_map, range_with_len}
 use Rattle.toml.specs.Data.{string}
+use Rattle.sift_base.specs.Units.{has, others}
 use Rattle.sift_base.specs.laws.Others.{length-others, times_in-ascending}
 use Rattle.sift_base.specs.laws.Sets.{passing_ascend}
 use Rattle.sift_base.specs.laws.Ranges.{range-ascends}
-use Rattle.sift_base.specs.Units.{has, others}
 use Rattle.sift_gen.specs.Scenario.{other_digits}
 use Rattle.sift_script.specs.Rules.{AreReceivers}
 use Rattle.sift_document.specs.Document.{digit_to, digits_to, each_read}

@@ -7,12 +7,12 @@ use Rattle.toml.specs.Data.{Data, Members, table}
 use Rattle.sift_base.specs.Draw.{draw_at}
 use Rattle.sift_base.specs.Word.{word_count}
 use Rattle.sift_gen.specs.Scenario.{array_of, fault_item, fault_table}
-use Rattle.sift_sections.specs.Fault.{AreItems, StandsAlone, changes_of, fault_in, fault_rules, from_of, stated_storm, unit_of}
-use Rattle.sift_sections.specs.Item.{change_in, item_keys}
 use Rattle.sift_script.specs.Script.{Change, Fault, changing}
 use Rattle.sift_script.specs.declared.script.SlotKind.TheVariants.{Out}
 use Rattle.sift_document.specs.Document.{HasOnlyKeys, IsTableOf, keys_of, members_of}
 use Rattle.sift_document.specs.Rules.{AreKept}
+use Rattle.sift_sections.specs.Fault.{AreItems, StandsAlone, changes_of, fault_in, fault_rules, from_of, stated_storm, unit_of}
+use Rattle.sift_sections.specs.Item.{change_in, item_keys}
 use Rattle.sift_trial.proofs.Digits.{other_units, others_read}
 use Rattle.sift_trial.proofs.Tables.{not_only}
 use Rattle.sift_trial.proofs.Values.{draw_below, number_read, word_read}

@@ -12,23 +12,27 @@ use Rattle.sift_base.specs.Name.{IsName}
 use Rattle.sift_base.specs.declared.layout.Layout.{Layout}
 use Rattle.sift_gen.specs.Scenario.{fault_table, sensor_tables, task_tables}
 use Rattle.sift_gen.specs.Tasks.{sensor_name, task_name}
-use Rattle.sift_parse.specs.Roll.{Roll}
-use Rattle.sift_program.specs.Program.{ProgramTree, program_shapes}
-use Rattle.sift_scenario.specs.Mission.{IsLawful, HasGoodTables, IsMission, IsStated}
-use Rattle.sift_scenario.specs.Program.{IsProgramOf, IsTreeOf, roll_for, turn_of}
-use Rattle.sift_scenario.specs.Root.{root_rules, units_of, version_of}
-use Rattle.sift_scenario.specs.Sensor.{sensor_names, sensor_rules, sensor_words, words_of}
-use Rattle.sift_sections.specs.Table.{table_rules, schedules_by, shed_of}
-use Rattle.sift_scenario.specs.Task.{Form, counts_of, names_of, start_words, task_entries, tasks_of, text, task_rules}
 use Rattle.sift_script.specs.Rules as scripts
 use Rattle.sift_script.specs.Script.{Fault, outputs_of}
 use Rattle.sift_table.specs.Laws.{PlainTablesAreGood}
 use Rattle.sift_table.specs.Rules as tables
 use Rattle.sift_table.specs.Rules.{report_lead}
 use Rattle.sift_table.specs.Schedule.{agreed_in, hearing_delay, plain_of}
-use Rattle.sift_mission.specs.Data.{MissionData, shapes_in}
-use Rattle.sift_document.specs.laws.Order.{kept_joined}
 use Rattle.sift_document.specs.Rules.{AreKept, AreMatched, HoldsOf, Rule, rule}
+use Rattle.sift_document.specs.Document.{tables_in}
+use Rattle.sift_document.specs.laws.Order.{kept_joined}
+use Rattle.sift_parse.specs.Roll.{Roll}
+use Rattle.sift_program.specs.Program.{ProgramTree, program_shapes}
+use Rattle.sift_mission.specs.Data.{MissionData, shapes_in}
+use Rattle.sift_sections.specs.Table.{table_rules, schedules_by, shed_of}
+use Rattle.sift_sections.specs.Clock.{clock_rules, clocks_in}
+use Rattle.sift_sections.specs.Fault.{fault_in, fault_rules}
+use Rattle.sift_scenario.specs.Mission.{IsLawful, HasGoodTables, IsMission, IsStated}
+use Rattle.sift_scenario.specs.Program.{IsProgramOf, IsTreeOf, roll_for, turn_of}
+use Rattle.sift_scenario.specs.Root.{root_rules, units_of, version_of}
+use Rattle.sift_scenario.specs.Sensor.{sensor_names, sensor_rules, sensor_words, words_of}
+use Rattle.sift_scenario.specs.Task.{Form, counts_of, names_of, start_words, task_entries, tasks_of, text, task_rules}
+use Rattle.sift_trial.specs.Texts.{DrawnTasksAreBrief, DrawnTextsAreTasks, drawn_roll, drawn_sensors, drawn_tasks}
 use Rattle.sift_trial.proofs.Faults.{among, early, fault_stated, faults_kept, unit_there}
 use Rattle.sift_trial.proofs.Program.{drawn_trees, trees_allowed, trees_are, trees_long, trees_of_one_word}
 use Rattle.sift_trial.proofs.Root.{document_of, frames_are, root_kept, units_are}
@@ -39,10 +43,6 @@ use Rattle.sift_trial.proofs.Tables.{names_are}
 use Rattle.sift_trial.proofs.Tasks.{all_known, counts_are, forms_are, forms_right, names_right, starts_right, tasks_are, tasks_long, text_at, words_right}
 use Rattle.sift_trial.proofs.Sensors as sensing
 use Rattle.sift_trial.proofs.Tasks as tasking
-use Rattle.sift_document.specs.Document.{tables_in}
-use Rattle.sift_sections.specs.Clock.{clock_rules, clocks_in}
-use Rattle.sift_sections.specs.Fault.{fault_in, fault_rules}
-use Rattle.sift_trial.specs.Texts.{DrawnTasksAreBrief, DrawnTextsAreTasks, drawn_roll, drawn_sensors, drawn_tasks}
 
 -- the rules of a document of so many units, by what they speak of
 abbrev themes_for : (units : ℕ) → Members → List (List Rule)

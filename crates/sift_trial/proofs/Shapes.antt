@@ -7,10 +7,10 @@ use Rattle.std.specs.List.{All, range_with_len}
 use Rattle.std.specs.Prelude.{slice_index}
 use Rattle.sift_base.specs.Shapes.{AreShapes, Shape, shape_at}
 use Rattle.sift_lang.specs.Tree.{TaskTree, end}
-use Rattle.sift_program.specs.Program.{ProgramTree, output_count, program_shapes, reads_task, task_at}
 use Rattle.sift_script.specs.Script.{outputs_of}
-use Rattle.sift_trial.proofs.Digits.{all_below}
+use Rattle.sift_program.specs.Program.{ProgramTree, output_count, program_shapes, reads_task, task_at}
 use Rattle.sift_program.specs.laws.ShapeLists.{shape_in, length-shapes, shape-there, words-shapes}
+use Rattle.sift_trial.proofs.Digits.{all_below}
 
 -- each tree has one output
 abbrev pub AreOfOneWord : List TaskTree → Type 0

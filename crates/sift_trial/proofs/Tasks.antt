@@ -11,9 +11,9 @@ use Rattle.sift_base.specs.Word.{word_count}
 use Rattle.sift_base.specs.Name.{IsName}
 use Rattle.sift_gen.specs.Tasks.{task_name, text_by}
 use Rattle.sift_gen.specs.Scenario.{array_of, number, pattern_from, task_place, task_tables}
-use Rattle.sift_scenario.specs.Task.{AreForms, Form, HasForm, counts_of, start_words, task_outputs, text, BreaksNames}
 use Rattle.sift_document.specs.Document.{HasOnlyKeys, IsTableOf, entries_of, keys_of, members_of}
 use Rattle.sift_document.specs.Rules.{HoldsOf}
+use Rattle.sift_scenario.specs.Task.{AreForms, Form, HasForm, counts_of, start_words, task_outputs, text, BreaksNames}
 use Rattle.sift_trial.proofs.DrawnRoll.{words_sum}
 use Rattle.sift_trial.proofs.Ranges.{made_alike, made_of, matched, nowhere}
 use Rattle.sift_trial.proofs.Tables.{entries_kept, members_are, names_kept, tables_long}

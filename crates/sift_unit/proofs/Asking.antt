@@ -13,11 +13,11 @@ use Rattle.sift_mission.specs.Slots.{stamp_of}
 use Rattle.sift_mission.specs.Fits.{Fits}
 use Rattle.sift_mission.specs.laws.Silent.{speaks}
 use Rattle.sift_mission.specs.laws.Calls.{call_of}
+use Rattle.sift_mission.specs.laws.Frames.{frame_low}
 use Rattle.sift_unit.specs.Desk.{Desk}
 use Rattle.sift_unit.specs.Going.{Going}
 use Rattle.sift_unit.specs.Boards.{IsPortOf}
 use Rattle.sift_unit.proofs.Tests.{some_none}
-use Rattle.sift_unit.proofs.Standing.{frame_low}
 use Rattle.sift_unit.proofs.Hearing.{AtHearing, hear_none}
 use Rattle.sift_unit.proofs.Saying.{AtSaying, say_none}
 use Rattle.sift_unit.proofs.Exporting.{stamps}

@@ -3,20 +3,20 @@ use Rattle.std.proofs.Common.{◌≡◌, inl, inr, ℕ, List, true, not, nat_eq,
 use Rattle.std.specs.Prelude.{ℤ, length, slice_index, ◌+ℤ◌}
 use Rattle.std.specs.List.{range_with_len}
 use Rattle.std.proofs.lemmas.Bool.{cases_Bool, eqb-false}
-use Rattle.sift_exec.specs.laws.NextConfigs.{next-same}
 use Rattle.sift_base.specs.Units.{has, has_bit, holds}
 use Rattle.sift_base.specs.declared.slot.Slot.{Slot}
 use Rattle.sift_base.specs.declared.slot.Slot.TheVariants.{Clock, RelaySense, Out, RelayReport}
+use Rattle.sift_base.specs.laws.ReadBack.{and_in}
+use Rattle.sift_base.specs.laws.Ranges.{any-same}
 use Rattle.sift_clock.specs.Correction.{corrected_offset}
+use Rattle.sift_exec.specs.laws.NextConfigs.{next-same}
 use Rattle.sift_mission.specs.Data.{FlownMission, IsConfigOf}
 use Rattle.sift_mission.specs.Slots.{is_slot}
 use Rattle.sift_conduct.specs.Conduct.{Account, Places, UnitFrame, unit_frame, Conduct, report_in, report_of, reading_by}
 use Rattle.sift_conduct.specs.Frames.{IdleConduct}
-use Rattle.sift_conduct.specs.laws.Tests.{any-same}
 use Rattle.sift_memory.specs.Memory.{Memory}
 use Rattle.sift_memory.specs.Tidings.{busy_account, idle_account, names_now}
 use Rattle.sift_memory.specs.Conditions.{IsShaped}
-use Rattle.sift_memory.specs.laws.Tests.{and_in}
 use Rattle.sift_memory.specs.laws.Sets.{holds-gathered}
 use Rattle.sift_unit.specs.Remembered.{Heard, with_clock}
 use Rattle.sift_unit.proofs.Tests.{any-and}

@@ -1,14 +1,15 @@
 -- A board goes on after it has entered, and what its step then came to.
 use Rattle.std.proofs.Common.{◌≡◌, inl, inr, ℕ, ◌+◌, ◌*◌, ◌<◌, ◌≤◌, ◌++◌, List, [], ◌∷◌, true, refl, sym, ap, ◌∙◌, subst, arith}
 use Rattle.std.specs.Prelude.{ℤ, Some}
-use Rattle.sift_skew.specs.Leading.{OffsetsChangeLittle}
 use Rattle.sift_buffer.specs.Conduct.{never, with_entered}
 use Rattle.sift_buffer.specs.Conduct.{Conduct as Acts}
 use Rattle.sift_buffer.specs.Views.{View, PortMaySay, PortMayHear, view_with_said, view_with_heard, KeepsOwn, EntersAfterRound, FindsBehind, Turns}
+use Rattle.sift_skew.specs.Leading.{OffsetsChangeLittle}
 use Rattle.sift_mission.specs.Data.{FlownMission}
 use Rattle.sift_mission.specs.Slots.{StormsCome}
-use Rattle.sift_conduct.specs.Conduct.{Account}
 use Rattle.sift_mission.specs.Fits.{Fits}
+use Rattle.sift_mission.specs.laws.Frames.{frame_low}
+use Rattle.sift_conduct.specs.Conduct.{Account}
 use Rattle.sift_memory.specs.Memory.{Memory}
 use Rattle.sift_memory.specs.Conditions.{IsShaped}
 use Rattle.sift_unit.specs.Desk.{Desk, is_end, account_now, moved}
@@ -23,7 +24,7 @@ use Rattle.sift_unit.proofs.Starting.{end_is}
 use Rattle.sift_unit.proofs.Ending.{frame_going}
 use Rattle.sift_unit.proofs.Found.{AtFrameEnd}
 use Rattle.sift_unit.proofs.Marks.{no_storm}
-use Rattle.sift_unit.proofs.Standing.{next_mul, frame_low}
+use Rattle.sift_unit.proofs.Standing.{next_mul}
 
 -- a unit that flew before a round of looks flies
 looks_flying : (v v' : View) → v.conduct.left ≡ never → KeepsOwn v v' → v'.conduct.left ≡ never

@@ -8,6 +8,7 @@ use Rattle.sift_buffer.specs.Views.{View}
 use Rattle.sift_mission.specs.Data.{FlownMission}
 use Rattle.sift_mission.specs.Slots.{StormsCome, turned_by}
 use Rattle.sift_mission.specs.laws.Turning.{before_turning}
+use Rattle.sift_mission.specs.laws.Frames.{frame_low}
 use Rattle.sift_conduct.specs.Conduct.{Account}
 use Rattle.sift_conduct.specs.Acts.{BoardKeeps}
 use Rattle.sift_conduct.specs.Frames.{Flies, frames_before}
@@ -20,7 +21,7 @@ use Rattle.sift_unit.specs.declared.board.Board.{Board as TheBoard}
 use Rattle.sift_unit.proofs.Flown.{drive_law}
 use Rattle.sift_unit.proofs.FrameLists.{keeps_by}
 use Rattle.sift_unit.proofs.Marks.{range_as}
-use Rattle.sift_unit.proofs.Standing.{frame_low, stands}
+use Rattle.sift_unit.proofs.Standing.{stands}
 
 -- a board that flies at the end of the mission has no storm
 calm_at_end : (m : FlownMission) (b : Desk) (c : Acts) → Flying m b c → StormsCome m → b.frame ≡ m.frames → (o : Option ℕ) → m.storm b.unit ≡ o → o ≡ None

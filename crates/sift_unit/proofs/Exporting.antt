@@ -6,14 +6,14 @@ use Rattle.std.proofs.lemmas.Option.{same_Some}
 use Rattle.sift_base.specs.declared.slot.Slot.{Slot}
 use Rattle.sift_buffer.specs.Conduct.{Saying, Hearing, saying}
 use Rattle.sift_buffer.specs.Conduct.{Conduct as Acts}
-use Rattle.sift_mission.specs.laws.Silent.{speaks}
-use Rattle.sift_mission.specs.laws.Calls.{call_of}
 use Rattle.sift_mission.specs.Data.{FlownMission}
 use Rattle.sift_mission.specs.Slots.{is_slot, calls, stamp_of, heard_at}
+use Rattle.sift_mission.specs.Fits.{Fits}
+use Rattle.sift_mission.specs.laws.Silent.{speaks}
+use Rattle.sift_mission.specs.laws.Calls.{call_of}
 use Rattle.sift_conduct.specs.Frames.{UnitFlight, FrameConduct, Flies}
 use Rattle.sift_conduct.specs.Conduct.{Account, Places}
 use Rattle.sift_conduct.specs.Acts.{word_in_saying, word_in_hearing, said_places, heard_places, unit_flight, StampsAreOfTheirFrames, Turns, stamp_and_moment, ActsAre, IsUnderway, BoardKeeps}
-use Rattle.sift_mission.specs.Fits.{Fits}
 use Rattle.sift_memory.specs.Stops.{hear_spot, say_spot}
 use Rattle.sift_unit.specs.Desk.{Desk, cursor, is_past, accounts_of}
 use Rattle.sift_unit.specs.Going.{word_in_frame, Meets, Going}

@@ -1,20 +1,20 @@
 -- Boards from their first step on.
 use Rattle.std.proofs.Common.{◌≡◌, ℕ, ◌+◌, ◌*◌, ◌<◌, ◌≤◌, List, [], map, length, Bool, true, false, Some, sym, ap, ◌∙◌, subst, arith}
 use Rattle.std.specs.Prelude.{slice_index_or, ℤ, Option}
+use Rattle.std.proofs.lemmas.List.{length-map}
 use Rattle.sift_buffer.specs.Conduct.{never}
 use Rattle.sift_buffer.specs.Conduct.{Conduct as Acts}
 use Rattle.sift_mission.specs.Fits.{Fits}
 use Rattle.sift_mission.specs.Data.{FlownMission}
-use Rattle.std.proofs.lemmas.List.{length-map}
+use Rattle.sift_mission.specs.laws.ByWords.{get_or-map}
+use Rattle.sift_conduct.specs.Conduct.{Account, account_of}
+use Rattle.sift_conduct.specs.declared.account.Account.{Account as TheAccount}
 use Rattle.sift_memory.specs.Memory.{Memory}
 use Rattle.sift_memory.specs.Memories.{memory_of}
-use Rattle.sift_mission.specs.laws.ByWords.{get_or-map}
 use Rattle.sift_unit.specs.Desk.{Desk, first_desk}
 use Rattle.sift_unit.specs.Keeping.{Flying, KeepsAs}
-use Rattle.sift_conduct.specs.Conduct.{Account, account_of}
 use Rattle.sift_unit.specs.Reach.{IsNearIn}
 use Rattle.sift_unit.specs.Boards.{desk_of, account_at, NewBoardLaw, DriveLaw, AccountLaw}
-use Rattle.sift_conduct.specs.declared.account.Account.{Account as TheAccount}
 use Rattle.sift_unit.proofs.Nearness.{near_enough}
 use Rattle.sift_unit.proofs.Standing.{stands}
 use Rattle.sift_unit.proofs.Marks.{kept_as, range_as, flying_as, not_never, at_end, end_not_never}

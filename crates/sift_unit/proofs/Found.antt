@@ -4,14 +4,14 @@ use Rattle.std.proofs.lemmas.Bool.{cases_Bool, both_ways}
 use Rattle.sift_base.specs.Units.{has}
 use Rattle.sift_base.specs.declared.slot.Slot.{Slot}
 use Rattle.sift_base.specs.declared.slot.Slot.TheVariants.{Clock}
-use Rattle.sift_skew.specs.Leading.{OffsetsChangeLittle}
 use Rattle.sift_buffer.specs.Conduct.{Conduct as Acts}
+use Rattle.sift_skew.specs.Leading.{OffsetsChangeLittle}
 use Rattle.sift_mission.specs.Data.{FlownMission, IsConfigOf}
 use Rattle.sift_mission.specs.Slots.{is_slot}
+use Rattle.sift_mission.specs.Fits.{Fits}
 use Rattle.sift_conduct.specs.Conduct.{Account, reading_by}
 use Rattle.sift_conduct.specs.Acts.{heard_places}
 use Rattle.sift_conduct.specs.laws.NextConfigs.{next_is_config}
-use Rattle.sift_mission.specs.Fits.{Fits}
 use Rattle.sift_memory.specs.Tidings.{names_now}
 use Rattle.sift_unit.specs.Reach.{IsNearIn}
 use Rattle.sift_unit.specs.Remembered.{with_clock}

@@ -4,9 +4,9 @@ use Rattle.std.proofs.lemmas.Bool.{cases_lt, le-ltb, lt-ltb}
 use Rattle.sift_base.specs.Units.{has}
 use Rattle.sift_buffer.specs.Conduct.{Conduct as Acts}
 use Rattle.sift_mission.specs.Data.{FlownMission, IsConfigOf}
+use Rattle.sift_mission.specs.Slots.{turned_by}
 use Rattle.sift_conduct.specs.Conduct.{Account, UnitFrame, unit_frame, Conduct, said_of}
 use Rattle.sift_conduct.specs.Acts.{BoardKeeps, ActsAre, unit_flight}
-use Rattle.sift_mission.specs.Slots.{turned_by}
 use Rattle.sift_conduct.specs.Frames.{Flies, UnitFlight, FrameConduct, IdleConduct}
 
 module _ (m : FlownMission) (u : ℕ) (d : UnitFlight) where

@@ -8,22 +8,22 @@ use Rattle.sift_base.specs.Units.{has, holds, others}
 use Rattle.sift_base.specs.declared.slot.Slot.{Slot}
 use Rattle.sift_base.specs.declared.slot.Slot.TheVariants.{Clock, Sense, RelaySense, Out, Report, RelayReport}
 use Rattle.sift_base.specs.laws.Others.{has-others}
-use Rattle.sift_base.specs.laws.Counts.{filter_has, map-same}
+use Rattle.sift_base.specs.laws.Counts.{of_filtered, map-same}
+use Rattle.sift_base.specs.laws.ReadBack.{and_in}
 use Rattle.sift_vote.specs.Majority.{majority_of, agreed_of, differs}
-use Rattle.sift_agree.specs.Agreement.{taken}
 use Rattle.sift_config.specs.Config.{reader_of}
 use Rattle.sift_clock.specs.Correction.{reading_of, is_too_far, correction_of}
+use Rattle.sift_agree.specs.Agreement.{taken}
 use Rattle.sift_mission.specs.Data.{FlownMission, IsConfigOf}
 use Rattle.sift_mission.specs.Slots.{executors, is_held, is_slot, is_senders, calls}
-use Rattle.sift_conduct.specs.Conduct.{Account, Places, UnitFrame, unit_frame, polled, reading_by}
 use Rattle.sift_mission.specs.Fits.{Fits}
-use Rattle.sift_memory.specs.Memory.{Memory, place_at, reading_at, polled_at, poll_of, note}
-use Rattle.sift_memory.specs.Conditions.{IsShaped}
-use Rattle.sift_memory.specs.laws.Tests.{and_in}
-use Rattle.sift_memory.specs.laws.Sets.{holds-gathered}
 use Rattle.sift_mission.specs.laws.Configs.{has-reader}
 use Rattle.sift_mission.specs.laws.Silent.{not_held}
 use Rattle.sift_mission.specs.laws.Calls.{call_is}
+use Rattle.sift_conduct.specs.Conduct.{Account, Places, UnitFrame, unit_frame, polled, reading_by}
+use Rattle.sift_memory.specs.Memory.{Memory, place_at, reading_at, polled_at, poll_of, note}
+use Rattle.sift_memory.specs.Conditions.{IsShaped}
+use Rattle.sift_memory.specs.laws.Sets.{holds-gathered}
 use Rattle.sift_unit.specs.Remembered.{Heard, Ran, polled_words, with_clock}
 
 module _ (m : FlownMission) (us : List ℕ) (u f : ℕ) (clk : ℤ) (a : Account) (h : Places) (last : List ℕ) (fit : Fits m) (config : IsConfigOf m us) (member : has us u ≡ true) where
@@ -58,7 +58,7 @@ module _ (m : FlownMission) (us : List ℕ) (u f : ℕ) (clk : ℤ) (a : Account
   poll-same : (w : ℕ) (heard : List (Option ℕ)) (b : Memory) → AreHeard (Out w) heard → w < m.words → Ran here b w →
       poll_of m us u b heard w ≡ polled_words here w
   poll-same w heard b places low ran = map-same (polled_at u b heard w) (polled here w) (executors m us w)
-      (λ v t. let x = filter_has (m.executes us w) us v t in polled-same w heard b places low ran v x.1 x.0)
+      (λ v t. let x = of_filtered (m.executes us w) us v t in polled-same w heard b places low ran v x.1 x.0)
 
   -- what the memory holds of a slot, by what was heard of it and of those before
   pub heard_new : (k : Slot) (heard : List (Option ℕ)) (b : Memory) → is_slot m k ≡ true → IsShaped m us u b

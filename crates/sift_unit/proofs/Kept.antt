@@ -3,12 +3,12 @@ use Rattle.std.proofs.Common.{◌≡◌, ◌≢◌, ℕ, List, length, true, fal
 use Rattle.std.specs.Prelude.{ℤ, nat_lt}
 use Rattle.std.specs.FinSet as set
 use Rattle.sift_base.specs.Units.{has, holds}
-use Rattle.sift_base.specs.laws.ReadBack.{false_last}
 use Rattle.sift_base.specs.declared.slot.Slot.{Slot}
 use Rattle.sift_base.specs.declared.slot.Slot.TheVariants.{Clock, Sense, RelaySense, Out, Report, RelayReport}
+use Rattle.sift_base.specs.laws.ReadBack.{false_last}
 use Rattle.sift_mission.specs.Data.{FlownMission}
-use Rattle.sift_conduct.specs.Conduct.{Account, Places, UnitFrame, unit_frame}
 use Rattle.sift_mission.specs.Fits.{is_caught_in}
+use Rattle.sift_conduct.specs.Conduct.{Account, Places, UnitFrame, unit_frame}
 use Rattle.sift_memory.specs.Memory.{Memory, note, run, is_made_by}
 use Rattle.sift_memory.specs.Tidings.{busy_account}
 use Rattle.sift_memory.specs.Conditions.{IsShaped}

@@ -5,18 +5,18 @@ use Rattle.std.proofs.lemmas.Bool.{and_parts, not-true, eqb-false}
 use Rattle.sift_base.specs.Units.{has, bits_of}
 use Rattle.sift_base.specs.declared.slot.Slot.{Slot}
 use Rattle.sift_base.specs.declared.slot.Slot.TheVariants.{Clock, Sense, RelaySense, Out, Report, RelayReport}
-use Rattle.sift_exec.specs.Conviction.{everyone_in}
 use Rattle.sift_config.specs.Config.{reader_of}
+use Rattle.sift_exec.specs.Conviction.{everyone_in}
 use Rattle.sift_mission.specs.Data.{FlownMission, IsConfigOf}
 use Rattle.sift_mission.specs.Slots.{is_slot, calls}
-use Rattle.sift_conduct.specs.Conduct.{Account, Places, UnitFrame, unit_frame, own_word}
 use Rattle.sift_mission.specs.Fits.{Fits}
+use Rattle.sift_mission.specs.laws.Silent.{not_held}
+use Rattle.sift_mission.specs.laws.Calls.{call_of}
+use Rattle.sift_conduct.specs.Conduct.{Account, Places, UnitFrame, unit_frame, own_word}
 use Rattle.sift_memory.specs.Memory.{Memory, run, is_made_by}
 use Rattle.sift_memory.specs.Tidings.{word_now}
 use Rattle.sift_memory.specs.Conditions.{IsShaped}
 use Rattle.sift_memory.specs.laws.Sets.{renewed-here}
-use Rattle.sift_mission.specs.laws.Silent.{not_held}
-use Rattle.sift_mission.specs.laws.Calls.{call_of}
 use Rattle.sift_unit.specs.Remembered.{Heard, Ran, Matches, Settled}
 use Rattle.sift_unit.proofs.Kept.{made_long}
 

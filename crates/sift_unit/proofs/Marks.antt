@@ -8,10 +8,10 @@ use Rattle.sift_buffer.specs.Conduct.{Conduct as Acts}
 use Rattle.sift_mission.specs.Data.{FlownMission}
 use Rattle.sift_mission.specs.Slots.{StormsCome}
 use Rattle.sift_mission.specs.Fits.{Fits}
+use Rattle.sift_mission.specs.laws.Frames.{frame_low}
 use Rattle.sift_unit.specs.Desk.{Desk}
 use Rattle.sift_unit.specs.Going.{InRange, Going}
 use Rattle.sift_unit.specs.Keeping.{Flying, Keeps, KeepsAs, IsEarly}
-use Rattle.sift_unit.proofs.Standing.{frame_low}
 
 -- a test does not pass and fail
 true_false : true ≡ false → ⊥

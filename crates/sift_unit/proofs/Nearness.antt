@@ -9,7 +9,7 @@ use Rattle.sift_skew.specs.Leading.{OffsetsChangeLittle}
 use Rattle.sift_mission.specs.Data.{FlownMission}
 use Rattle.sift_mission.specs.Fits.{Fits, change_limit}
 use Rattle.sift_mission.specs.PartsFit.{start_limit}
-use Rattle.sift_memory.specs.laws.Offsets.{next_little}
+use Rattle.sift_mission.specs.laws.Offsets.{next_little}
 use Rattle.sift_unit.specs.Reach.{IsNearIn}
 
 -- at the start a clock is near enough

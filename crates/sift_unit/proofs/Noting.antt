@@ -9,10 +9,10 @@ use Rattle.sift_buffer.specs.Conduct.{Conduct as Acts}
 use Rattle.sift_mission.specs.Data.{FlownMission}
 use Rattle.sift_mission.specs.Slots.{is_slot}
 use Rattle.sift_mission.specs.Fits.{Fits, is_caught_in}
+use Rattle.sift_mission.specs.laws.Tasks.{few_tasks}
 use Rattle.sift_memory.specs.Memory.{Memory, note}
 use Rattle.sift_memory.specs.Conditions.{IsShaped}
 use Rattle.sift_memory.specs.Stops.{spot}
-use Rattle.sift_memory.specs.laws.Tasks.{few_tasks}
 use Rattle.sift_unit.specs.Remembered.{Heard}
 use Rattle.sift_unit.specs.Desk.{Desk, cursor, heard_mark, run_mark}
 use Rattle.sift_unit.specs.Going.{Accounts, Words, ActsTo, Fate, InRange, Going, desk_frame}

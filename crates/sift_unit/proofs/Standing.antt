@@ -58,10 +58,6 @@ stands m b c r = record {
 pub next_mul : (f n : ℕ) → (f + 1) * n ≡ f * n + n
 next_mul f n = grind arith
 
--- a later frame begins at or after an earlier one's end
-pub frame_low : (n f f' : ℕ) → f < f' → f * n + n ≤ f' * n
-frame_low n f f' low = let d = f' - suc f in let e : f' ≡ f + suc d = omega arith in rw e (grind arith)
-
 -- a frame begins with what was found in the one before
 pub begins_next : (m : FlownMission) (u : ℕ) (a : Accounts) (f : ℕ) → (a (f + 1)).cfg ≡ (a f).next_cfg → (a (f + 1)).clk ≡ (a f).next_clk →
     BeginConduct m u a (f + 1)

@@ -1,7 +1,8 @@
 -- Tests that pass or fail, joined, and what is chosen by them.
-use Rattle.std.proofs.Common.{◌≡◌, ℕ, List, [], ◌∷◌, Bool, true, false, ◌&&◌, ◌||◌, Option, Some, None, refl}
+use Rattle.std.proofs.Common.{◌≡◌, ℕ, List, [], ◌∷◌, Bool, true, false, ◌&&◌, Option, Some, None, refl}
 use Rattle.std.specs.Prelude.{if◌then◌else◌}
 use Rattle.std.specs.List.{list_any}
+use Rattle.sift_base.specs.laws.ReadBack.{distribute}
 
 -- what is there isn't absent
 pub some_none : {A : Type 0} {x : A} → Some x ≡ None → ⊥
@@ -26,8 +27,4 @@ choice_none false p x e = refl
 pub any-and : (xs : List ℕ) (c : Bool) (p : ℕ → Bool) → list_any (λ x. c && p x) xs ≡ (c && list_any p xs)
 any-and [] true p = refl
 any-and [] false p = refl
-any-and (x ∷ xs) c p = rw (any-and xs c p) (spread c (p x) (list_any p xs))
-  where
-    spread : (c x y : Bool) → ((c && x) || (c && y)) ≡ (c && (x || y))
-    spread true x y = refl
-    spread false x y = refl
+any-and (x ∷ xs) c p = rw (any-and xs c p) (distribute c (p x) (list_any p xs))

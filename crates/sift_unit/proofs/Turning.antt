@@ -4,15 +4,15 @@ use Rattle.std.proofs.lemmas.Option.{same_Some}
 use Rattle.sift_buffer.specs.Conduct.{Conduct as Acts}
 use Rattle.sift_mission.specs.Data.{FlownMission}
 use Rattle.sift_mission.specs.Slots.{turned_by}
-use Rattle.sift_conduct.specs.Frames.{Flies}
-use Rattle.sift_conduct.specs.Acts.{Turns, IsUnderway}
 use Rattle.sift_mission.specs.Fits.{Fits}
 use Rattle.sift_mission.specs.laws.Turning.{before_turning}
+use Rattle.sift_mission.specs.laws.Frames.{frame_low}
+use Rattle.sift_conduct.specs.Frames.{Flies}
+use Rattle.sift_conduct.specs.Acts.{Turns, IsUnderway}
 use Rattle.sift_unit.specs.Desk.{Desk, cursor}
 use Rattle.sift_unit.specs.Keeping.{Flying, Keeps, HasFlown, as_flying}
 use Rattle.sift_unit.specs.BoardLaws.{KeepLaw}
 use Rattle.sift_unit.proofs.Tests.{some_none}
-use Rattle.sift_unit.proofs.Standing.{frame_low}
 use Rattle.sift_unit.proofs.Exporting.{unsaid, unheard, underway, kept}
 
 -- a unit that flies is before the frame from which on it is stray, or at progress 0
@@ -48,7 +48,7 @@ turns_by m fit b c (inr k) (Some from) e = let same : b.frame ≡ from = same_So
   hears_nothing = λ f kd p slot low. unheard m fit b c' k.going f kd p slot (inr (omega arith, k.at));
 }
 
--- and so one that it has ended
+-- a frame that a unit has flown and ended is before the one at which its board stands
 far_enough : (m : FlownMission) (b : Desk) (c : Acts) (n : ℕ) → HasFlown m b c n → (f : ℕ) → f < n → Flies m b.unit f → f < b.frame
 far_enough m b c n (inl far) f low fly = omega arith
 far_enough m b c n (inr t) f low fly = before_turning f b.frame (subst (λ o. turned_by o f ≡ false) t.storm fly.whole)

@@ -3,7 +3,7 @@ use Rattle.std.proofs.Common.{◌≡◌, ℕ, zero, suc, ◌<◌, Bool, true, fa
 use Rattle.std.specs.FinSet as set
 use Rattle.std.proofs.lemmas.Bool.{cases_eq, eq-eqb, ne_eqb}
 use Rattle.sift_base.specs.Units.{Units, holds}
-use Rattle.sift_base.specs.laws.ReadBack.{true_last, false_last}
+use Rattle.sift_base.specs.laws.ReadBack.{true_last, false_last, or_false, or_assoc}
 use Rattle.sift_base.specs.laws.Sets.{holds-insert}
 use Rattle.sift_vote.specs.Majority.{differs, has_differing}
 
@@ -12,17 +12,9 @@ pub differing_front : (us : List ℕ) (places : List (Option ℕ)) (vote : Optio
     has_differing (take (suc i) us) (take (suc i) places) vote u ≡ (has_differing (take i us) (take i places) vote u || (nat_eq (get_or us i d) u && differs (get_or places i absent) vote))
 differing_front [] places vote u i d absent within same = absurd (omega arith)
 differing_front (v ∷ us) [] vote u i d absent within same = absurd (omega arith)
-differing_front (v ∷ us) (place ∷ places) vote u zero d absent within same = last (nat_eq v u && differs place vote)
-  where
-    last : (b : Bool) → (b || false) ≡ b
-    last true = refl
-    last false = refl
+differing_front (v ∷ us) (place ∷ places) vote u zero d absent within same = or_false (nat_eq v u && differs place vote)
 differing_front (v ∷ us) (place ∷ places) vote u (suc i) d absent within same =
-    ap (λ b. (nat_eq v u && differs place vote) || b) (differing_front us places vote u i d absent (omega arith) (omega arith)) ∙ grouped (nat_eq v u && differs place vote) _ _
-  where
-    grouped : (a b c : Bool) → (a || (b || c)) ≡ ((a || b) || c)
-    grouped true b c = refl
-    grouped false b c = refl
+    ap (λ b. (nat_eq v u && differs place vote) || b) (differing_front us places vote u i d absent (omega arith) (omega arith)) ∙ or_assoc (nat_eq v u && differs place vote) _ _
 
 -- a set with one unit more has what it had, and that unit
 pub joins : (caught : Units) (t u : ℕ) (seen : Bool) → holds caught u ≡ seen → holds (set.insert caught t) u ≡ (seen || nat_eq t u)
@@ -34,10 +26,6 @@ joins caught t u seen is = holds-insert caught t u ∙ elim (cases_eq t u) [
     or_true : (b : Bool) → (b || true) ≡ true
     or_true true = refl
     or_true false = refl
-
-    or_false : (b : Bool) → (b || false) ≡ b
-    or_false true = refl
-    or_false false = refl
 
 -- one unit more and its place, where the units so far are those with a place that differs
 module _ (us : List ℕ) (places : List (Option ℕ)) (vote : Option ℕ) (caught : Units) (i t : ℕ) (place : Option ℕ)
@@ -59,7 +47,3 @@ module _ (us : List ℕ) (places : List (Option ℕ)) (vote : Option ℕ) (caugh
       ∙ sym (front u ∙ ap (λ b. has_differing (take i us) (take i places) vote u || (nat_eq t u && b)) agree
       ∙ ap (λ b. has_differing (take i us) (take i places) vote u || b) (false_last (nat_eq t u))
       ∙ or_false (has_differing (take i us) (take i places) vote u))
-    where
-      or_false : (b : Bool) → (b || false) ≡ b
-      or_false true = refl
-      or_false false = refl

@@ -1,10 +1,10 @@
 -- Lists of units: who is in them, and how many of them pass a test.
-use Rattle.std.proofs.Common.{◌≡◌, ℕ, zero, suc, ◌+◌, ◌<◌, ◌≤◌, inl, inr, List, [], ◌∷◌, length, map, slice_index, Some, Bool, true, false, not, cond, nat_eq, refl, sym, ap, ◌∙◌, arith}
+use Rattle.std.proofs.Common.{◌≡◌, ℕ, zero, suc, ◌+◌, ◌<◌, inl, inr, List, [], ◌∷◌, length, map, slice_index, Some, Bool, true, false, not, cond, nat_eq, refl, sym, ap, ◌∙◌, arith}
 use Rattle.std.specs.Prelude.{count_by}
 use Rattle.std.specs.List.{AllByRecursion, filter, slice_get}
 use Rattle.std.proofs.lemmas.Bool.{and_parts, cases_Bool, cases_eq, eq-eqb, ne_eqb}
 use Rattle.std.proofs.lemmas.List.Sums.{sum_by-cons}
-use Rattle.sift_base.specs.Units.{has, others, faulty_count}
+use Rattle.sift_base.specs.Units.{has, faulty_count}
 use Rattle.sift_base.specs.laws.ReadBack.{has-filter}
 
 -- u is below each unit of the list
@@ -41,29 +41,30 @@ has_index (u ∷ us) zero low = has-head u us
 has_index (u ∷ us) (suc i) low = has-tail u us (slice_index us i) (has_index us i (omega arith))
 
 -- what passes a test in a list is in the list, and passes
-pub filter_has : (p : ℕ → Bool) (us : List ℕ) (v : ℕ) → has (filter p us) v ≡ true → (p v ≡ true) × (has us v ≡ true)
-filter_has p us v there = and_parts (p v) (has us v) (sym (has-filter p us v) ∙ there)
+pub of_filtered : (p : ℕ → Bool) (us : List ℕ) (v : ℕ) → has (filter p us) v ≡ true → (p v ≡ true) × (has us v ≡ true)
+of_filtered p us v there = and_parts (p v) (has us v) (sym (has-filter p us v) ∙ there)
 
 -- and the other way round
-pub has_filter : (p : ℕ → Bool) (us : List ℕ) (v : ℕ) → has us v ≡ true → p v ≡ true → has (filter p us) v ≡ true
-has_filter p us v there passes = has-filter p us v ∙ rw (passes, there) refl
+pub in_filtered : (p : ℕ → Bool) (us : List ℕ) (v : ℕ) → has us v ≡ true → p v ≡ true → has (filter p us) v ≡ true
+in_filtered p us v there passes = has-filter p us v ∙ rw (passes, there) refl
 
 -- values that are the same at each unit of a list
 pub map-same : {A : Type 0} (f g : ℕ → A) (us : List ℕ) → ((u : ℕ) → has us u ≡ true → f u ≡ g u) → map f us ≡ map g us
 map-same f g [] same = refl
 map-same f g (u ∷ us) same = rw (same u (has-head u us), map-same f g us (λ v there. same v (has-tail u us v there))) refl
 
+-- two tests that agree on a list pass the same
+pub filter_same : (p q : ℕ → Bool) (ks : List ℕ) → ((u : ℕ) → has ks u ≡ true → p u ≡ q u) → filter p ks ≡ filter q ks
+filter_same p q [] agree = refl
+filter_same p q (k ∷ ks) agree =
+    let rest = filter_same p q ks (λ u there. agree u (has-tail k ks u there)) in
+    let here = agree k (has-head k ks) in
+    elim (cases_Bool (q k)) [ inl t ↦ rw (t, here ∙ t) (ap (λ us. k ∷ us) rest) | inr f ↦ rw (f, here ∙ f) rest ]
+
 -- a list with a unit isn't empty
 pub length-has : (u : ℕ) (us : List ℕ) → has us u ≡ true → 0 < length us
 length-has u [] in_us = absurd cc
 length-has u (v ∷ us) in_us = omega arith
-
--- the others of a list are no more than all
-pub length-others-≤ : (u : ℕ) (us : List ℕ) → length (others u us) ≤ length us
-length-others-≤ u [] = omega arith
-length-others-≤ u (v ∷ us) =
-    let rest = length-others-≤ u us in
-    elim (cases_Bool (nat_eq v u)) [ inl t ↦ rw t (omega arith) | inr f ↦ rw f (omega arith) ]
 
 -- ---- counts
 

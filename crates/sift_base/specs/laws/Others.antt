@@ -1,13 +1,17 @@
 -- The other units of a list, and where one unit is faulty at most.
 use Rattle.std.proofs.Common.{◌≡◌, ◌≢◌, ℕ, ◌+◌, ◌<◌, ◌≤◌, inl, inr, List, [], ◌∷◌, length, Bool, true, false, not, nat_eq, refl, sym, ap, ◌∙◌, subst, arith}
 use Rattle.std.specs.Prelude.{count_by}
-use Rattle.std.proofs.lemmas.Bool.{cases_Bool, eqb-true, ne_eqb, eqb-false}
+use Rattle.std.proofs.lemmas.Bool.{cases_Bool, eqb-true, ne_eqb, eqb-false, not-true}
 use Rattle.sift_base.specs.Units.{has, others, IsAscending, faulty_count, HasMargin}
 use Rattle.sift_base.specs.laws.Counts.{count-cons, count-yes, count-no, has-tail, IsBelowAll}
 
 -- how often a unit stands in a list
 abbrev pub times_in : ℕ → List ℕ → ℕ
 times_in u us = count_by (λ v. nat_eq v u) us
+
+-- a test says that two units are different
+pub told_apart : (u v : ℕ) → not (nat_eq u v) ≡ true → u ≢ v
+told_apart u v told = eqb-false u v (not-true (nat_eq u v) told)
 
 -- a unit below all of a list isn't in it
 times_in-below : (u : ℕ) (us : List ℕ) → IsBelowAll u us → times_in u us ≡ 0
@@ -47,6 +51,10 @@ length-others u (v ∷ us) =
       | inl t ↦ rw (count-yes (λ x. nat_eq x u) v us t, t) (omega arith)
       | inr f ↦ rw (count-no (λ x. nat_eq x u) v us f, f) (omega arith)
     ]
+
+-- so they are no more than all
+pub length-others-≤ : (u : ℕ) (us : List ℕ) → length (others u us) ≤ length us
+length-others-≤ u us = omega (arith, length-others u us)
 
 -- no more of the others pass a test than of all
 pub count-others-≤ : (p : ℕ → Bool) (u : ℕ) (us : List ℕ) → count_by p (others u us) ≤ count_by p us

@@ -1,12 +1,12 @@
 -- Numbers in turn: the list from one on, of so many.
-use Rattle.std.proofs.Common.{◌≡◌, ℕ, zero, suc, ◌+◌, ◌<◌, ◌≤◌, [], ◌∷◌, ◌++◌, true, false, nat_eq, inl, inr, refl, ap, ◌∙◌, arith}
-use Rattle.std.specs.List.{All, range_with_len}
+use Rattle.std.proofs.Common.{◌≡◌, ℕ, zero, suc, ◌+◌, ◌<◌, ◌≤◌, [], ◌∷◌, ◌++◌, true, false, nat_eq, inl, inr, refl, ap, ◌∙◌, arith, Bool}
+use Rattle.std.specs.List.{All, range_with_len, list_any}
 use Rattle.std.proofs.lemmas.List.{map-id}
 use Rattle.std.proofs.lemmas.List.Elements.{All-from_get_or}
 use Rattle.std.proofs.lemmas.List.FromFn.{get_or-range_with_len, length-range_with_len, map-range_with_len_more}
 use Rattle.std.proofs.lemmas.Bool.{cases_Bool, cases_eq, cases_lt, eqb-true, eq-eqb}
-use Rattle.sift_base.specs.laws.Counts.{IsBelowAll}
 use Rattle.sift_base.specs.Units.{has, IsAscending}
+use Rattle.sift_base.specs.laws.Counts.{IsBelowAll}
 
 -- ---- which they are
 
@@ -66,3 +66,16 @@ range-more a (suc n) =
 -- the numbers below one more
 pub range-next : (n : ℕ) → range_with_len 0 (n + 1) ≡ range_with_len 0 n ++ n ∷ []
 range-next n = simp map-id at (map-range_with_len_more (λ k. k) 0 n n (omega arith))
+
+-- ---- tests of them
+
+-- tests that agree at each of these numbers tell alike whether some number passes
+any-same_from : (from n : ℕ) (p q : ℕ → Bool) → ((x : ℕ) → from ≤ x → x < from + n → p x ≡ q x)
+    → list_any p (range_with_len from n) ≡ list_any q (range_with_len from n)
+any-same_from from zero p q same = refl
+any-same_from from (suc n) p q same =
+    rw (same from (omega arith) (omega arith), any-same_from (from + 1) n p q (λ x low high. same x (omega arith) (omega arith))) refl
+
+-- and below a number
+pub any-same : (n : ℕ) (p q : ℕ → Bool) → ((x : ℕ) → x < n → p x ≡ q x) → list_any p (range_with_len 0 n) ≡ list_any q (range_with_len 0 n)
+any-same n p q same = any-same_from 0 n p q (λ x low high. same x (omega arith))

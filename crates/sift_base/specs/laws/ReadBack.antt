@@ -1,4 +1,4 @@
--- A set of units can be read back from its byte and from the list of its members. No public clause cites this module.
+-- Filtered lists, tests beside true and false, and a set of units read back from its byte and from the list of its members.
 use Rattle.std.specs.Prelude.{◌≡◌, ℕ, ◌+◌, ◌<◌, ◌^◌, ◌==◌, List, [], ◌∷◌, Bool, true, false, ◌&&◌, ◌||◌, cond, nat_eq, if◌then◌else◌}
 use Rattle.std.specs.List.{filter, sum_by}
 use Rattle.std.specs.FinSet as set
@@ -8,7 +8,7 @@ use Rattle.std.specs.Ordering.{nat_cmp}
 use Rattle.std.specs.Cmp.{nat_cmp_total}
 use Rattle.sift_base.specs.Units.{Units, unit_numbers, holds, has_bit, units_of, bits_of, has, members, AreUnits}
 
--- ---- members of filtered lists
+-- ---- tests beside true and false
 
 -- a test beside one that fails fails
 pub false_last : (t : Bool) → (t && false) ≡ false
@@ -20,6 +20,28 @@ pub true_last : (t : Bool) → (t && true) ≡ t
 true_last true = refl
 true_last false = refl
 
+-- a test, or one that fails, is that test
+pub or_false : (t : Bool) → (t || false) ≡ t
+or_false true = refl
+or_false false = refl
+
+-- of three tests it makes no difference which two are taken first
+pub or_assoc : (a b c : Bool) → (a || (b || c)) ≡ ((a || b) || c)
+or_assoc true b c = refl
+or_assoc false b c = refl
+
+-- a test beside one of two is it beside the one, or beside the other
+pub distribute : (t a b : Bool) → ((t && a) || (t && b)) ≡ (t && (a || b))
+distribute true a b = refl
+distribute false a b = refl
+
+-- the second of two tests may be another where the first passes
+pub and_in : (x y y' : Bool) → (x ≡ true → y ≡ y') → (x && y) ≡ (x && y')
+and_in true y y' e = e refl
+and_in false y y' e = refl
+
+-- ---- members of filtered lists
+
 -- a list with a number in front, where the test passes, has the number then
 has-cond : (passes : Bool) (k q : ℕ) (ks : List ℕ) → has (cond passes (k ∷ ks) ks) q ≡ ((passes && nat_eq k q) || has ks q)
 has-cond true k q ks = refl
@@ -29,10 +51,6 @@ has-cond false k q ks = refl
 test_same : (one other equal : Bool) → (equal ≡ true → one ≡ other) → (one && equal) ≡ (other && equal)
 test_same one other true same = ap (λ t. t && true) (same refl)
 test_same one other false same = false_last one ∙ sym (false_last other)
-
-distribute : (t a b : Bool) → ((t && a) || (t && b)) ≡ (t && (a || b))
-distribute true a b = refl
-distribute false a b = refl
 
 -- a filtered list has the numbers of the list that pass the test
 pub has-filter : (passes : ℕ → Bool) (ks : List ℕ) (q : ℕ) → has (filter passes ks) q ≡ (passes q && has ks q)

@@ -10,7 +10,7 @@ use Rattle.std.proofs.lemmas.Bool.{cases_lt, cases_eq, cases_Bool, eqb-true, eq-
 use Rattle.std.proofs.lemmas.Nat.Bits.{bit_at-zero, bit_at-trailing_zeros, bit_at_and, bit_at_not, bit_at_or, bit_at_set_same, bit_at_set_other, bit_at_clear_same, bit_at_clear_other}
 use lib.Count.{ones}
 use Rattle.sift_base.specs.Units.{members, Units, unit_numbers, holds, has_bit, units_of, AreUnits, has, IsAscending, MembersAreTheSet}
-use Rattle.sift_base.specs.laws.Counts.{has-head, has-tail, IsBelowAll}
+use Rattle.sift_base.specs.laws.Counts.{IsBelowAll, filter_same}
 use Rattle.sift_base.specs.laws.ReadBack as back
 use Rattle.sift_base.specs.laws.ReadBack.{has-filter, has_low, set-members}
 
@@ -197,14 +197,6 @@ passing_from p a (suc n) t from below here none = elim (cases_eq a t) [
   | inl e ↦ rw (e, here) refl
   | inr ne ↦ rw (none a (omega arith)) (passing_from p (a + 1) n t (omega arith) (omega arith) here none)
 ]
-
--- two tests that agree on a list pass the same
-pub filter_same : (p q : ℕ → Bool) (ks : List ℕ) → ((u : ℕ) → has ks u ≡ true → p u ≡ q u) → filter p ks ≡ filter q ks
-filter_same p q [] agree = refl
-filter_same p q (k ∷ ks) agree =
-    let rest = filter_same p q ks (λ u there. agree u (has-tail k ks u there)) in
-    let here = agree k (has-head k ks) in
-    elim (cases_Bool (q k)) [ inl t ↦ rw (t, here ∙ t) (ap (λ us. k ∷ us) rest) | inr f ↦ rw (f, here ∙ f) rest ]
 
 -- what is below a list is below each number of it
 pub below_has : (k : ℕ) (ks : List ℕ) (u : ℕ) → IsBelowAll k ks → has ks u ≡ true → k < u

@@ -2,8 +2,8 @@
 use Rattle.std.proofs.Common.{◌≡◌, ◌≤◌, ◌<◌, ◌⊎◌, inl, inr, ℕ, zero, suc, Bool, true, false, ◌&&◌, ◌||◌, List, [], ◌∷◌, All, Decides, eqb, leb, ltb, leb-true, le-leb, refl, sym}
 use Rattle.std.proofs.lemmas.Bool.Decides.{Decides-and, Decides-below_and, Decides-below_or, Decides-by_and, Decides-eqb, Decides-like, Decides-ltb, not_from_Decides}
 use Rattle.std.specs.List.{list_all}
-use Rattle.sift_base.specs.laws.Counts.{IsBelowAll}
 use Rattle.sift_base.specs.Units.{IsAscending}
+use Rattle.sift_base.specs.laws.Counts.{IsBelowAll}
 
 -- a test that decides a fact
 abbrev pub Test : Type 0 → Type 0
@@ -27,7 +27,7 @@ pub where_so : {P Q : Type 0} → Test P → Test Q → Test (P → Q)
 where_so (true, tells) q = (q.0, Decides-like q.0 (λ holds so. holds) (λ then. then (tells.0 refl)) q.1)
 where_so (false, tells) q = (true, (λ e so. absurd (not_from_Decides false tells refl so), λ then. refl))
 
--- the order of numbers, and whether they are the same
+-- whether a number is at most another
 pub at_most : (a b : ℕ) → Test (a ≤ b)
 at_most a b = (leb a b, (leb-true a b, le-leb a b))
 

@@ -9,10 +9,10 @@ use Rattle.sift_code.specs.Machine.{State, Inputs, local_count, start_state, ste
 use Rattle.sift_code.specs.Bound.{product, sum_within, bound_of}
 use Rattle.sift_code.specs.Refusal.{Program, IsSound}
 use Rattle.sift_code.specs.Ends.{Fits, RunsTo, Ends}
+use Rattle.sift_code.specs.Work.{Agrees}
 use Rattle.sift_code.proofs.Costs.{head0, tail0, cost_step, costs, costs_here}
 use Rattle.sift_code.proofs.Remaining.{remaining, some_left}
 use Rattle.sift_code.proofs.Sound.{at_place}
-use Rattle.sift_code.specs.Work.{Agrees}
 use Rattle.sift_code.proofs.Progress.{left_of}
 use Rattle.sift_code.proofs.Leading.{step_leads}
 

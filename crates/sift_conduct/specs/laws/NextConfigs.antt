@@ -8,7 +8,7 @@ use Rattle.sift_exec.specs.Conviction.{is_convicted, kept_by, next_by}
 use Rattle.sift_exec.specs.laws.NextConfigs.{next_inside}
 use Rattle.sift_mission.specs.Data.{FlownMission, IsConfigOf}
 
--- it is one
+-- the next of a configuration of the mission is one of the mission
 pub next_is_config : (m : FlownMission) (names : ℕ → ℕ → Bool) (us : List ℕ) → IsConfigOf m us → IsConfigOf m (next_by names us)
 next_is_config m names us config = record {
   enough = elim (cases_Bool (nat_le least_units (length (kept_by names us)))) [

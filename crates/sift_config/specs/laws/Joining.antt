@@ -4,11 +4,7 @@ use Rattle.std.specs.FinSet as set
 use Rattle.std.proofs.lemmas.Bool.{cases_Bool, eqb-true, eq-eqb, ne_eqb, eqb-false}
 use Rattle.sift_base.specs.Units.{Units, holds}
 use Rattle.sift_base.specs.laws.Sets.{holds-insert}
-use Rattle.sift_base.specs.laws.ReadBack.{false_last}
-
-or_false : (b : Bool) → (b || false) ≡ b
-or_false true = refl
-or_false false = refl
+use Rattle.sift_base.specs.laws.ReadBack.{false_last, or_false}
 
 module _ (found : Units) (seen test : ℕ → Bool) (t : ℕ) (are : (u : ℕ) → holds found u ≡ (seen u && test u)) where
   -- one unit more that passes

@@ -6,9 +6,10 @@ use Rattle.std.specs.FinSet as set
 use Rattle.std.proofs.lemmas.Bool.{cases_Bool, cases_eq, and_parts}
 use Rattle.std.proofs.lemmas.List.FromFn.{length-range_with_len}
 use Rattle.sift_base.specs.Units.{Units, AreUnits, unit_numbers, holds, has, has_bit, members, units_of}
-use Rattle.sift_base.specs.laws.ReadBack.{has-filter, has_low, both, holds-units_of}
-use Rattle.sift_base.specs.laws.Sets.{filter_same, members_without, members_are, passing_ascend}
+use Rattle.sift_base.specs.laws.ReadBack.{has-filter, has_low, both, holds-units_of, or_assoc}
+use Rattle.sift_base.specs.laws.Sets.{members_without, members_are, passing_ascend}
 use Rattle.sift_base.specs.laws.Ranges.{range-low, range-ascends}
+use Rattle.sift_base.specs.laws.Counts.{filter_same}
 use Rattle.sift_config.specs.Config.{IsConfig, first_units, remaining}
 
 -- ---- the first units
@@ -98,15 +99,11 @@ has_front us u i t first = rw (add-one i) (front us i first)
     last false true = refl
     last false false = refl
 
-    grouped : (a b c : Bool) → (a || (b || c)) ≡ ((a || b) || c)
-    grouped true b c = refl
-    grouped false b c = refl
-
     front : (us : List ℕ) (i : ℕ) → slice_get (drop i us) 0 ≡ Some t → has (take (suc i) us) u ≡ (has (take i us) u || nat_eq t u)
     front [] zero first = absurd cc
     front [] (suc i) first = absurd cc
     front (v ∷ us) zero first = let e : v ≡ t = ap (λ o. unwrap_or o t) first in rw e (last false (nat_eq t u))
-    front (v ∷ us) (suc i) first = ap (λ b. nat_eq v u || b) (front us i first) ∙ grouped (nat_eq v u) (has (take i us) u) (nat_eq t u)
+    front (v ∷ us) (suc i) first = ap (λ b. nat_eq v u || b) (front us i first) ∙ or_assoc (nat_eq v u) (has (take i us) u) (nat_eq t u)
 
 -- the first place behind a front is the place where the front ends
 pub get-drop : (us : List ℕ) (i : ℕ) → slice_get (drop i us) 0 ≡ slice_get us i

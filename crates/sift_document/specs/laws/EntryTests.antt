@@ -1,16 +1,16 @@
 -- The rule of an array whose entries are tested one by one.
 use Rattle.std.proofs.Common.{◌≡◌, ◌∙◌, inl, inr, ℕ, List, Result, Ok, Err, Some, ap, length, map, refl, subst, sym, arith}
-use Rattle.sift_base.specs.declared.stop.Stop.{Stop}
-use Rattle.sift_base.specs.declared.stop.Stop.TheVariants as stop
 use Rattle.std.proofs.lemmas.List.{length-map}
 use Rattle.toml.specs.Data.{Data, Members}
 use Rattle.toml.specs.View.{view}
 use Rattle.toml.specs.declared.value.Value.{Value}
-use Rattle.sift_document.specs.laws.Places.{map_map}
+use Rattle.sift_base.specs.declared.stop.Stop.{Stop}
+use Rattle.sift_base.specs.declared.stop.Stop.TheVariants as stop
 use Rattle.sift_document.specs.Document.{IsArrayOf, entries_of, members_of}
 use Rattle.sift_document.specs.Rules.{HoldsOf, BreaksEntries}
 use Rattle.sift_document.specs.Testing.{RefusesBy, Tests}
 use Rattle.sift_document.specs.declared.rule.BrokenRule.{BrokenRule}
+use Rattle.sift_document.specs.laws.Places.{map_map}
 
 -- the tables of entries are those that the data of the entries are
 pub of_entries :

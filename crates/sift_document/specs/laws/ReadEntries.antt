@@ -7,9 +7,9 @@ use Rattle.std.specs.Prelude.{nat_le, ◌&&◌, if◌then◌else◌, option_map}
 use Rattle.toml.specs.Data.{Data, array, as_array}
 use Rattle.toml.specs.View.{items_view, view}
 use Rattle.toml.specs.declared.value.Value.{Value}
+use Rattle.sift_document.specs.Document.{array_between, array_of, each_read}
 use Rattle.sift_document.specs.laws.Arrays.{array_from, list_of-view}
 use Rattle.sift_document.specs.laws.Places.{so_far}
-use Rattle.sift_document.specs.Document.{array_between, array_of, each_read}
 
 -- what is read of a value and of those after it, where the whole is read
 pub each_read-parts :

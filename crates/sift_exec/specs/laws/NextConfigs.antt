@@ -4,16 +4,15 @@ use Rattle.std.specs.Prelude.{nat_le, if◌then◌else◌}
 use Rattle.std.proofs.lemmas.Bool.{cases_Bool}
 use Rattle.sift_base.specs.Units.{has, others}
 use Rattle.sift_base.specs.Layout.{least_units}
-use Rattle.sift_base.specs.laws.Counts.{count-same, filter_has}
+use Rattle.sift_base.specs.laws.Counts.{count-same, of_filtered, filter_same}
 use Rattle.sift_base.specs.laws.Others.{has-others}
-use Rattle.sift_base.specs.laws.Sets.{filter_same}
 use Rattle.sift_exec.specs.Conviction.{is_convicted, kept_by, next_by}
 
 -- it has units of this one alone
 pub next_inside : (names : ℕ → ℕ → Bool) (us : List ℕ) (v : ℕ) → has (next_by names us) v ≡ true → has us v ≡ true
 next_inside names us v h =
     elim (cases_Bool (nat_le least_units (length (kept_by names us)))) [
-      | inl t ↦ (filter_has (λ u. not (is_convicted names us u)) us v (rw t at h)).1
+      | inl t ↦ (of_filtered (λ u. not (is_convicted names us u)) us v (rw t at h)).1
       | inr t ↦ rw t at h
     ]
 

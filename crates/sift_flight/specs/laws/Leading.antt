@@ -5,9 +5,9 @@ use Rattle.std.proofs.lemmas.Bool.{cases_Bool, ne_eqb}
 use Rattle.sift_base.specs.Units.{has}
 use Rattle.sift_base.specs.laws.Counts.{has-head, has-tail}
 use Rattle.sift_mission.specs.Data.{FlownMission}
+use Rattle.sift_mission.specs.Premises.{IsFlyable}
 use Rattle.sift_flight.specs.Flight.{Flight, config_of}
 use Rattle.sift_flight.specs.Figures.{Works, lead_of, config_at}
-use Rattle.sift_mission.specs.Premises.{IsFlyable}
 
 -- where some unit of a list passes a test, the first that does is in the list, and passes
 first_passes : (p : ℕ → Bool) (us : List ℕ) (v : ℕ) → has us v ≡ true → p v ≡ true → (has us (unwrap_or (find p us) 0) ≡ true) × (p (unwrap_or (find p us) 0) ≡ true)

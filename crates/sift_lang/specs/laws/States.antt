@@ -1,4 +1,4 @@
--- How many locals live and how many output words there are, after statements.
+-- How many locals live and how many output words there are after statements; and states that are the same.
 use Rattle.std.proofs.Common.{◌≡◌, ℕ, zero, suc, ◌≤◌, List, [], ◌∷◌, length, refl, ◌∙◌, arith, ap}
 use Rattle.std.specs.Fn.{iterate}
 use Rattle.std.proofs.lemmas.List.{length-take-le, length-append, length-set, length-replicate}

@@ -6,8 +6,8 @@ use Rattle.std.specs.Result.{OnOk}
 use Rattle.std.specs.List.{flat_map, range_with_len}
 use Rattle.std.proofs.lemmas.Grind.{flat_map-append}
 use Rattle.std.proofs.lemmas.List.{append-nil, map_more, take_all, take_more}
+use Rattle.std.proofs.lemmas.Option.{slice_get_within, get_or_from_slice_get}
 use Rattle.sift_base.specs.laws.Ranges.{range-next}
-use Rattle.sift_exec.specs.laws.Counted.{place_holds, place_there}
 use Rattle.sift_line.specs.Line.{printed, text_of_lines}
 use Rattle.sift_line.specs.Part.{list_text, unit_digit, units_text}
 use Rattle.sift_line.specs.declared.line.ReportLine.{ReportLine}
@@ -19,8 +19,8 @@ pub digit_more : (us : List ℕ) (i u : ℕ) (old now new : List ℕ) → slice_
     → new ≡ now ++ unit_digit u ∷ [] → new ≡ old ++ map unit_digit (take (i + 1) us)
 digit_more us i u old now new there so_far pushed =
     pushed ∙ ap (λ bs. bs ++ unit_digit u ∷ []) so_far ∙ append_assoc old (map unit_digit (take i us)) (unit_digit u ∷ [])
-    ∙ ap (λ v. old ++ (map unit_digit (take i us) ++ unit_digit v ∷ [])) (sym (place_holds us i u u there))
-    ∙ ap (λ bs. old ++ bs) (sym (map_more unit_digit us i u (place_there us i u there)))
+    ∙ ap (λ v. old ++ (map unit_digit (take i us) ++ unit_digit v ∷ [])) (sym (get_or_from_slice_get us i u u there))
+    ∙ ap (λ bs. old ++ bs) (sym (map_more unit_digit us i u (slice_get_within us i u there)))
 
 -- the digits of some units are their text
 digits_are_text : (us : List ℕ) → 0 < length us → map unit_digit us ≡ units_text us
@@ -72,7 +72,7 @@ pub line_more : (line : ℕ → ReportLine) (us : List ℕ) (i u : ℕ) (old now
     → now ≡ old ++ text_of_lines (map line (take i us)) → new ≡ now ++ printed (line u) → new ≡ old ++ text_of_lines (map line (take (i + 1) us))
 line_more line us i u old now new there so_far here =
     let more : map line (take (i + 1) us) ≡ map line (take i us) ++ line u ∷ [] =
-    map_more line us i u (place_there us i u there) ∙ ap (λ v. map line (take i us) ++ line v ∷ []) (place_holds us i u u there) in
+    map_more line us i u (slice_get_within us i u there) ∙ ap (λ v. map line (take i us) ++ line v ∷ []) (get_or_from_slice_get us i u u there) in
     rw (here, so_far, more, flat_map-append printed) (simp (append_assoc, append-nil))
 
 -- a last line behind other lines
@@ -94,5 +94,5 @@ pub unit_more : (text : ℕ → List ℕ) (us : List ℕ) (i u : ℕ) (old now n
     → new ≡ now ++ text u → new ≡ old ++ flat_map text (take (i + 1) us)
 unit_more text us i u old now new there so_far here =
     let more : take (i + 1) us ≡ take i us ++ u ∷ [] =
-    take_more us i u (place_there us i u there) ∙ ap (λ v. take i us ++ v ∷ []) (place_holds us i u u there) in
+    take_more us i u (slice_get_within us i u there) ∙ ap (λ v. take i us ++ v ∷ []) (get_or_from_slice_get us i u u there) in
     rw (here, so_far, more, flat_map-append text) (simp (append_assoc, append-nil))

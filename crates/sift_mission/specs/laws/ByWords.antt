@@ -5,10 +5,10 @@ use Rattle.std.proofs.lemmas.List.{append-nil, append_assoc, length-map, length-
 use Rattle.std.proofs.lemmas.List.Sums.{sum_by_more_le}
 use Rattle.sift_lang.specs.Tree.{TaskTree, tree_of}
 use Rattle.sift_lang.specs.declared.tree.Task.{Task}
-use Rattle.sift_program.specs.Program.{output_count, shapes_from}
 use Rattle.sift_table.specs.Timing.{task_of}
-use Rattle.sift_mission.specs.ByWord.{by_word}
+use Rattle.sift_program.specs.Program.{output_count, shapes_from}
 use Rattle.sift_program.specs.laws.ShapeLists.{output_count-cons}
+use Rattle.sift_mission.specs.ByWord.{by_word}
 
 -- each word has a task
 pub length-by_word : (t : ℕ) (tasks : List TaskTree) → length (by_word t tasks) ≡ output_count tasks

@@ -1,14 +1,11 @@
 -- What it means that one unit says a slot to another.
 use Rattle.std.proofs.Common.{◌≡◌, ◌≢◌, ℕ, List, true, not, ◌&&◌, nat_eq, ap}
-use Rattle.std.proofs.lemmas.Bool.{and_from, and_parts, eqb-false, ne_eqb, not-true}
+use Rattle.std.proofs.lemmas.Bool.{and_from, and_parts, ne_eqb}
 use Rattle.sift_base.specs.Units.{has}
 use Rattle.sift_base.specs.declared.slot.Slot.{Slot}
+use Rattle.sift_base.specs.laws.Others.{told_apart}
 use Rattle.sift_mission.specs.Data.{FlownMission}
 use Rattle.sift_mission.specs.Slots.{is_slot, calls, is_senders}
-
--- a test says that two units are different
-pub told_apart : (u v : ℕ) → not (nat_eq u v) ≡ true → u ≢ v
-told_apart u v told = eqb-false u v (not-true (nat_eq u v) told)
 
 -- p says the slot to q: the slot is there, both are of the configuration, they are different, and p is one of the slot's senders
 pub record Call (m : FlownMission) (us : List ℕ) (k : Slot) (p q : ℕ) : Type 0 where

@@ -13,8 +13,8 @@ use Rattle.sift_parse.specs.Lexeme.{Lexeme, word, numeral, operator, mark, opera
 use Rattle.sift_parse.specs.Tokens.{place_after, tokens_of, tokens_after}
 use Rattle.sift_parse.specs.Roll.{Roll}
 use Rattle.sift_parse.specs.Refusal.{BeginsWith, IsNoSyntax, lexemes_of, NoneBefore}
-use Rattle.sift_parse.proofs.Refusals.Kinds.{Stands, NoneEarlier, none_told}
 use Rattle.sift_parse.specs.Scanned.{Kind, no_lexeme_here, no_syntax, long_name, large_number, many_rounds, many_locals, deep_level, unknown_name, later_task, StandsIn, StandsAt, IsFine, kind_of}
+use Rattle.sift_parse.proofs.Refusals.Kinds.{Stands, NoneEarlier, none_told}
 use Rattle.sift_parse.proofs.Lexing.OneLexing.{one_lexeme, next_lexeme}
 use Rattle.sift_parse.proofs.Places.Placing.{begins-front, tokens_of-append, places_are_force}
 

@@ -12,8 +12,8 @@ use Rattle.sift_parse.specs.Roll.{Roll}
 use Rattle.sift_parse.specs.Tokens.{tokens_of}
 use Rattle.sift_parse.specs.Refusal.{BeginsWith, lexemes_of, IsRefused, IsParsed}
 use Rattle.sift_parse.specs.Scanned.{Kind, no_lexeme_here, no_syntax, long_name, large_number, many_rounds, many_locals, deep_level, unknown_name, later_task}
-use Rattle.sift_parse.proofs.Refusals.Kinds.{Stands, stop_for, none_found, IsRefusedFor, refused_found}
 use Rattle.sift_parse.specs.Answer.{IsSameAnswer, OneAnswer, IsAnswerOf, TaskIsAnswered}
+use Rattle.sift_parse.proofs.Refusals.Kinds.{Stands, stop_for, none_found, IsRefusedFor, refused_found}
 use Rattle.sift_parse.proofs.Lexing.OneLexing.{one_rest}
 use Rattle.sift_parse.proofs.Refusals.OneRefusal.{Sided, at_one, earlier, later, sided, none_after, same_refusal}
 use Rattle.sift_parse.proofs.Refusals.Standing.{no_lexeme-of-nothing}

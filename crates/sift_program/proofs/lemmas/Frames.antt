@@ -12,8 +12,8 @@ use Rattle.sift_base.specs.Units.{has}
 use Rattle.sift_lang.specs.declared.tree.Task.{Task}
 use Rattle.sift_lang.specs.Tree.{TaskTree, end, tree_of}
 use Rattle.sift_lang.specs.Sound.{IsSound, AllNowsBelow}
-use Rattle.sift_lang.specs.laws.States.{length-meaning}
 use Rattle.sift_lang.specs.Meaning.{meaning}
+use Rattle.sift_lang.specs.laws.States.{length-meaning}
 use Rattle.sift_program.specs.declared.program.TheConstants.{WORD_LIMIT}
 use Rattle.sift_program.specs.declared.program.Program.{Program}
 use Rattle.sift_program.specs.Program.{task_at, ProgramTree, program_of, output_count, first_word, IsSoundProgram}

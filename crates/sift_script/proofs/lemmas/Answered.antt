@@ -2,9 +2,9 @@
 use Rattle.std.proofs.Common.{◌≡◌, ◌≤◌, ◌<◌, ℕ, ◌+◌, false, List, Option, Some, None, IfSome, length}
 use Rattle.std.proofs.lemmas.Bool.Decides.{Decides-like}
 use Rattle.std.specs.Prelude.{slice_index}
+use Rattle.sift_base.specs.Units.{has}
 use Rattle.sift_base.specs.laws.Requirements.{AreTested, entries_met}
 use Rattle.sift_base.specs.laws.Tests.{Test, is_false, always, ascends, at_most, both, decided, each, less, some_below}
-use Rattle.sift_base.specs.Units.{has}
 use Rattle.sift_script.specs.Faults.{changes_in}
 use Rattle.sift_script.specs.Laws.{ScriptsAreAnswered}
 use Rattle.sift_script.specs.Rules.{AreReceivers, HasPlaceBy, IsThere, entry_rules, fault_at, units_named}

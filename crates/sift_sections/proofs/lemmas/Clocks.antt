@@ -4,17 +4,17 @@ use Rattle.std.proofs.lemmas.Bool.{cases_lt}
 use Rattle.std.proofs.lemmas.Int.{ints}
 use Rattle.std.specs.List.{All}
 use Rattle.std.specs.Prelude.{codes, ℤ, pos, option_and_then, unwrap_or, ◌≤ℤ◌, ◌+ℤ◌}
-use Rattle.sift_skew.specs.Limits.{AreNumbers, IsAdmitted}
 use Rattle.toml.specs.Data.{Data, Members, get_member}
-use Rattle.sift_mission.specs.PartsFit.{AreClocks}
-use Rattle.sift_document.specs.laws.Order.{kept_each}
 use Rattle.sift_document.specs.Document.{integer_between, members_of}
 use Rattle.sift_document.specs.Rules.{AreKept}
-use Rattle.sift_sections.proofs.KnownStarts.{together_in}
+use Rattle.sift_document.specs.laws.Order.{kept_each}
 use Rattle.sift_document.specs.laws.Numbers.{between, between_at, read_by}
-use Rattle.sift_sections.proofs.Ticks.{All-replicate, AreRows, AreTicks, right_in, right_or, rows_near, rows_or, ticks_or, zeros_near}
+use Rattle.sift_skew.specs.Limits.{AreNumbers, IsAdmitted}
+use Rattle.sift_mission.specs.PartsFit.{AreClocks}
 use Rattle.sift_sections.specs.Clock.{StartTogether, clock_rules, clocks_in, drifts_of, error_of, errors_of, figure_rules, length_limit, length_of, rate_of, skew_of, starts_of, tick_limit, unit_rules}
 use Rattle.sift_sections.specs.laws.Named.{clock_themes}
+use Rattle.sift_sections.proofs.KnownStarts.{together_in}
+use Rattle.sift_sections.proofs.Ticks.{All-replicate, AreRows, AreTicks, right_in, right_or, rows_near, rows_or, ticks_or, zeros_near}
 
 -- what isn't less is at least as much
 not_less : (m n : ℕ) → (m < n → ⊥) → n ≤ m

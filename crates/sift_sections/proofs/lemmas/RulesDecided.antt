@@ -5,14 +5,14 @@ use Rattle.std.specs.Prelude.{unwrap_or, codes}
 use Rattle.toml.specs.Data.{Data}
 use Rattle.sift_document.specs.Document.{entries_of, members_of, tables_in, IsTableOf}
 use Rattle.sift_document.specs.Rules.{HoldsOf, BreaksEntries, IsFirstPlace, OfNoEntry, Rule, rule}
-use Rattle.sift_sections.specs.laws.Decided.{Decided, at_most, both, either, first_place, holds, negated, nothing, same_number}
-use Rattle.sift_sections.specs.laws.KnownEntries.{known_array, known_entry, known_way, known_table}
-use Rattle.sift_sections.proofs.KnownStarts.{apart_known}
+use Rattle.sift_document.specs.laws.Order.{joined, joined_to}
 use Rattle.sift_sections.specs.Clock.{clock_keys, clock_rules, drifts_of, error_of, errors_of, length_of, rate_of, skew_of, starts_of}
 use Rattle.sift_sections.specs.Fault.{changes_of, fault_limit, fault_rules, from_of, stated_storm, unit_of}
 use Rattle.sift_sections.specs.Table.{IsTableEntry, positions_of, shed_of, size_count, table_rules, subframes_at}
+use Rattle.sift_sections.specs.laws.Decided.{Decided, at_most, both, either, first_place, holds, negated, nothing, same_number}
+use Rattle.sift_sections.specs.laws.KnownEntries.{known_array, known_entry, known_way, known_table}
 use Rattle.sift_sections.specs.laws.Named.{fault_keys, IsHeadless, HasOneWay, later_table_rules, clock_themes}
-use Rattle.sift_document.specs.laws.Order.{joined, joined_to}
+use Rattle.sift_sections.proofs.KnownStarts.{apart_known}
 
 -- a rule is broken at a first place, or at none
 abbrev pub IsDecided : Rule → Type 0

@@ -8,13 +8,13 @@ use Rattle.std.specs.Prelude.{unwrap_or}
 use Rattle.toml.specs.Data.{Data, boolean, no_members}
 use Rattle.sift_base.specs.Layout.{least_units}
 use Rattle.sift_table.specs.Schedule.{Schedule, plain_of}
-use Rattle.sift_document.specs.laws.Arrays.{array_entries}
 use Rattle.sift_document.specs.Document.{IsArrayOf, entries_of, members_of, tables_in}
 use Rattle.sift_document.specs.Rules.{IsKept, rule}
+use Rattle.sift_document.specs.laws.Arrays.{array_entries}
+use Rattle.sift_sections.specs.Table.{IsTableEntry, schedule_in, schedules_by, size_count}
 use Rattle.sift_sections.specs.laws.Decided.{stable}
 use Rattle.sift_sections.specs.laws.KnownEntries.{known_array, known_entry}
 use Rattle.sift_sections.specs.laws.Named.{BreaksTables}
-use Rattle.sift_sections.specs.Table.{IsTableEntry, schedule_in, schedules_by, size_count}
 
 -- the schedule of a place has a size and a period
 pub record IsSized (period size : ℕ) (table : Schedule) : Type 0 where

@@ -9,10 +9,10 @@ use Rattle.sift_base.specs.Layout.{least_units}
 use Rattle.sift_table.specs.Schedule.{Schedule, plain_of}
 use Rattle.sift_document.specs.Document.{HasOnlyKeys, entries_of, keys_of, members_of, tables_in}
 use Rattle.sift_document.specs.Rules.{IsKept, rule}
-use Rattle.sift_sections.proofs.lemmas.Sizes.{entry_fits}
-use Rattle.sift_sections.specs.Table.{IsTableEntry, schedule_in, schedules_by, shed_of, size_count, table_keys}
-use Rattle.sift_sections.specs.laws.Named.{BreaksTables}
 use Rattle.sift_document.specs.laws.Numbers.{read_by}
+use Rattle.sift_sections.specs.Table.{IsTableEntry, schedule_in, schedules_by, shed_of, size_count, table_keys}
+use Rattle.sift_sections.proofs.lemmas.Sizes.{entry_fits}
+use Rattle.sift_sections.specs.laws.Named.{BreaksTables}
 
 -- a key of version 1 isn't `shed`
 other_key :

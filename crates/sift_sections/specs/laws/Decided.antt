@@ -34,7 +34,7 @@ pub nothing : {A : Type 0} (o : Option A) → Decided (o ≡ None)
 nothing None = inl refl
 nothing (Some x) = inr (λ e. cc)
 
--- whether numbers, texts and options of texts are the same
+-- two numbers are the same, or they aren't
 pub same_number : (m n : ℕ) → Decided (m ≡ n)
 same_number m n = elim (cases_order m n) [
   | inl same ↦ inl same

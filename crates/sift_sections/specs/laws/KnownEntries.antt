@@ -2,12 +2,12 @@
 use Rattle.std.proofs.Common.{◌≡◌, inl, inr, ℕ, List, length, Option, Some, None, ◌+◌, refl, sym, ap, subst, ◌∙◌, arith}
 use Rattle.std.specs.Prelude.{codes}
 use Rattle.toml.specs.Data.{Data, Items, Members, string, integer, float, boolean, datetime, array, table, get_member}
-use Rattle.sift_document.specs.Document.{HasOnlyKeys, IsArrayOf, IsTableOf, entries_of, keys_of, list_of, members_of}
-use Rattle.sift_sections.specs.laws.Decided.{Decided, among, at_most, both, each, either, nothing, same_text, same_value}
 use Rattle.sift_base.specs.Layout.{least_units}
+use Rattle.sift_document.specs.Document.{HasOnlyKeys, IsArrayOf, IsTableOf, entries_of, keys_of, list_of, members_of}
 use Rattle.sift_sections.specs.Fault.{AreItems, StandsAlone, item_limit}
 use Rattle.sift_sections.specs.Item.{item_keys}
 use Rattle.sift_sections.specs.Table.{IsTableEntry, size_of, table_keys}
+use Rattle.sift_sections.specs.laws.Decided.{Decided, among, at_most, both, each, either, nothing, same_text, same_value}
 use Rattle.sift_sections.specs.laws.Named.{HasOneWay, storm_keys}
 
 -- ---- keys and entries

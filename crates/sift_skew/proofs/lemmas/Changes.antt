@@ -6,7 +6,8 @@ use Rattle.std.proofs.lemmas.Bool.{cases_Bool, ltb-false, le-ltb}
 use Rattle.std.proofs.lemmas.List.{length-map}
 use Rattle.std.proofs.Math.Nat.{mul-le-mul_right}
 use Rattle.sift_base.specs.Units.{others}
-use Rattle.sift_base.specs.laws.Counts.{length-has, length-others-≤}
+use Rattle.sift_base.specs.laws.Counts.{length-has}
+use Rattle.sift_base.specs.laws.Others.{length-others-≤}
 use Rattle.sift_clock.specs.Distance.{IsWithin}
 use Rattle.sift_clock.specs.Correction.{counted, counted_sum, correction_of}
 use Rattle.sift_clock.specs.laws.Floors.{floor_is}

@@ -2,14 +2,14 @@
 use Rattle.std.proofs.Common.{◌≡◌, ◌≤◌, ◌<◌, ◌+◌, inl, inr, ℕ, Bool, true, false, not, List, All, length, refl}
 use Rattle.std.proofs.lemmas.Bool.Decides.{Decides-like}
 use Rattle.std.specs.List.{list_all}
-use Rattle.sift_base.specs.laws.Requirements.{AreTested, entries_met, met_or_broken}
-use Rattle.sift_base.specs.laws.Tests.{Test, ascends, at_most, both, decided, each, each_below, is_empty, is_false, less, same, where_so}
 use Rattle.sift_base.specs.Shapes.{AllShapes, shape_at}
 use Rattle.sift_base.specs.Units.{has}
-use Rattle.sift_table.proofs.Apart.{all_from_apart, apart_from_all}
+use Rattle.sift_base.specs.laws.Requirements.{AreTested, entries_met, met_or_broken}
+use Rattle.sift_base.specs.laws.Tests.{Test, ascends, at_most, both, decided, each, each_below, is_empty, is_false, less, same, where_so}
 use Rattle.sift_table.specs.Laws.{TablesAreAnswered}
 use Rattle.sift_table.specs.Rules.{AreApart, ReadsPolledWords, SharesNoPosition, least_executors, report_lead, row_rules, rules_where, table_rules}
 use Rattle.sift_table.specs.Schedule.{Schedule, agreed_in, hearing_delay, polled_in, positions_of, run_in}
+use Rattle.sift_table.proofs.Apart.{all_from_apart, apart_from_all}
 
 -- whether lists are apart
 apart : (some others : List ℕ) → Test (AreApart some others)

@@ -1,7 +1,7 @@
 -- A table is refused in one way.
 use Rattle.std.proofs.Common.{◌≡◌, ℕ, inl, inr, ◌∙◌, sym}
-use Rattle.sift_base.specs.laws.Requirements.{met_unbroken, one_number, one_refused}
 use Rattle.sift_base.specs.Shapes.{AllShapes}
+use Rattle.sift_base.specs.laws.Requirements.{met_unbroken, one_number, one_refused}
 use Rattle.sift_table.specs.Laws.{OneBrokenRule}
 use Rattle.sift_table.specs.Rules.{IsFirstBroken, IsGood, row_rules, table_rules}
 use Rattle.sift_table.specs.Schedule.{Schedule}

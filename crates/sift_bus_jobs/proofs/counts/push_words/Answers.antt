@@ -1,7 +1,7 @@
 use Rattle.std.proofs.Common.{ℕ, ◌++◌, ◌||◌, ap, sym, ◌∙◌, nat_lt, string_bytes}
 use Rattle.std.specs.List.{sum_by}
-use Rattle.sift_bus_port.specs.Logs.{count_in, log_of}
 use Rattle.sift_line.specs.laws.Printed.{text_more}
+use Rattle.sift_bus_port.specs.Logs.{count_in, log_of}
 use Rattle.sift_bus_jobs.specs.Text.{frame_text}
 use Rattle.sift_bus_jobs.proofs.Texts.{any_more}
 use Rattle.sift_bus_jobs.proofs.counts.push_words.Goals as goal

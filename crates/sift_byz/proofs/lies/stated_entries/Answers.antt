@@ -1,6 +1,6 @@
 use Rattle.toml.specs.View.{view}
-use Rattle.sift_document.specs.laws.EntryTests.{kept_entries, refused_entry, refused_whole}
 use Rattle.sift_document.specs.Document.{IsTableOf}
+use Rattle.sift_document.specs.laws.EntryTests.{kept_entries, refused_entry, refused_whole}
 use Rattle.sift_byz.specs.Stated.{lie_keys, lie_limit}
 use Rattle.sift_byz.proofs.Stopping.{handed_on}
 use Rattle.sift_byz.proofs.lies.stated_entries.Goals as goal

@@ -1,8 +1,8 @@
 use Rattle.std.proofs.Common.{sym}
 use Rattle.toml.specs.View.{table_view}
+use Rattle.sift_document.specs.Document.{HasOnlyKeys}
 use Rattle.sift_document.specs.laws.Order.{stopped}
 use Rattle.sift_document.specs.laws.Testing.{refused_of_none}
-use Rattle.sift_document.specs.Document.{HasOnlyKeys}
 use Rattle.sift_byz.specs.Lawful.{rules_of}
 use Rattle.sift_byz.specs.Stated.{root_keys}
 use Rattle.sift_byz.proofs.Stopping.{handed_on, kept_stated, kept_with_units, refusal, refused_later, refused_unstated, stopped_with_m, stopped_with_units}

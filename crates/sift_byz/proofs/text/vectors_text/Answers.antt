@@ -1,9 +1,9 @@
 use Rattle.std.proofs.Common.{◌≡◌, ◌∙◌, ℕ, List, [], get_or, length, ap, arith}
 use Rattle.std.proofs.lemmas.List.FromFn.{get_or-map-range_with_len, length-map-range_with_len}
 use Rattle.std.specs.List.{flat_map, range_with_len}
+use Rattle.sift_line.specs.laws.Printed.{first_text_more}
 use Rattle.sift_byz.specs.Plan.{plan_of, vector}
 use Rattle.sift_byz.specs.Text.{line_text}
-use Rattle.sift_byz.proofs.Lists.{text_more}
 use Rattle.sift_byz.proofs.text.vectors_text.Goals as goal
 
 -- each unit has a vector
@@ -20,7 +20,7 @@ loop-unit-preserved c =
     let there : c.row.result.now ≡ vector plan unit =
     c.row.ensures.vector ∙ ap (λ (vectors : List (List ℕ)). get_or vectors unit []) c.requires
     ∙ get_or-map-range_with_len (vector plan) 0 c.args.plan.now.units unit unit [] c.loop-unit-test.true (omega arith) in
-    text_more (λ u. line_text plan u (vector plan u)) unit _ _ c.loop-unit.invariant (rw there at c.in_ok-push_line.ensures)
+    first_text_more (λ u. line_text plan u (vector plan u)) unit _ _ c.loop-unit.invariant (rw there at c.in_ok-push_line.ensures)
 
 -- all lines
 pub returns : goal.returns

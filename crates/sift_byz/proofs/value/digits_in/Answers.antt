@@ -1,7 +1,7 @@
 use Rattle.std.proofs.Common.{◌≡◌, ◌∙◌, None, List, ℕ, ap, arith, sym}
 use Rattle.std.proofs.lemmas.List.{take_all}
-use Rattle.sift_document.specs.laws.ReadEntries.{each_read-none, length-each_read, read-step}
 use Rattle.sift_document.specs.Document.{digit_to, each_read}
+use Rattle.sift_document.specs.laws.ReadEntries.{each_read-none, length-each_read, read-step}
 use Rattle.sift_byz.proofs.Testing.{none_some}
 use Rattle.sift_byz.proofs.value.digits_in.Goals as goal
 

@@ -2,9 +2,9 @@ use Rattle.std.proofs.Common.{◌≡◌, ◌+◌, ◌++◌, length, drop, rules,
 use Rattle.std.proofs.lemmas.Grind.{common_steps}
 use Rattle.sift_lang.specs.declared.tree.Stmt.{the_lemmas}
 use Rattle.sift_lang.specs.Tree.{term_of, statement_of, block_of, choose, choose_else, repeat}
-use Rattle.sift_lang.specs.laws.Rounds.{block_of-drop}
 use Rattle.sift_code.specs.declared.instr.Instr.TheVariants.{Jump}
 use Rattle.sift_code.specs.Bound.{kept}
+use Rattle.sift_lang.specs.laws.Rounds.{block_of-drop}
 use Rattle.sift_compile.specs.Code.{term_code, behind, statement_code}
 use Rattle.sift_compile.specs.Length.{block_length}
 use Rattle.sift_compile.specs.declared.stop.TheConstants.{CODE_LIMIT}

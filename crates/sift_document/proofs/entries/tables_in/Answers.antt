@@ -1,9 +1,9 @@
 use Rattle.std.proofs.Common.{below_more, map, ◌∙◌, arith}
 use Rattle.std.proofs.lemmas.List.{length-map, take_all}
 use Rattle.toml.specs.View.{table_view, view}
+use Rattle.sift_document.specs.Document.{IsTableOf, members_of}
 use Rattle.sift_document.specs.laws.Places.{fails_here, holds_here, nowhere, read_more}
 use Rattle.sift_document.specs.laws.Testing.{first_broken}
-use Rattle.sift_document.specs.Document.{IsTableOf, members_of}
 use Rattle.sift_document.proofs.entries.tables_in.Goals as goal
 
 -- an entry is no table, or has an unknown key

@@ -1,8 +1,8 @@
 use Rattle.std.proofs.Common.{sym, ◌∙◌}
 use Rattle.std.proofs.lemmas.List.{map-append}
 use Rattle.toml.specs.View.{view}
-use Rattle.sift_document.specs.laws.ReadEntries.{array_of-values, value-all, value-none, value-step}
 use Rattle.sift_document.specs.Document.{digits_to}
+use Rattle.sift_document.specs.laws.ReadEntries.{array_of-values, value-all, value-none, value-step}
 use Rattle.sift_document.proofs.value.digit_lists.Goals as goal
 
 -- an entry is no string of digits

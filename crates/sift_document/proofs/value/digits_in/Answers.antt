@@ -1,6 +1,6 @@
 use Rattle.std.proofs.Common.{sym}
-use Rattle.sift_document.specs.laws.ReadEntries.{each_read-none, read-all, read-step}
 use Rattle.sift_document.specs.Document.{digit_to}
+use Rattle.sift_document.specs.laws.ReadEntries.{each_read-none, read-all, read-step}
 use Rattle.sift_document.proofs.value.digits_in.Goals as goal
 
 -- a byte is no such digit

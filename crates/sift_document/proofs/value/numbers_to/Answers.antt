@@ -1,7 +1,7 @@
 use Rattle.std.proofs.Common.{◌≡◌, ap, rules, sym, ◌∙◌}
 use Rattle.toml.specs.View.{view}
-use Rattle.sift_document.specs.laws.ReadEntries.{array_of-values, value-all, value-none, value-step}
 use Rattle.sift_document.specs.Document.{integer_between}
+use Rattle.sift_document.specs.laws.ReadEntries.{array_of-values, value-all, value-none, value-step}
 use Rattle.sift_document.proofs.value.numbers_to.Goals as goal
 
 -- an entry is no such number

@@ -1,10 +1,10 @@
 use Rattle.std.proofs.Common.{inl, inr, map, sym, take, ap, ◌∙◌, arith}
 use Rattle.std.proofs.lemmas.List.{get_or-map, length-map, take_all}
 use Rattle.toml.specs.View.{view}
+use Rattle.sift_document.specs.Document.{word_value}
 use Rattle.sift_document.specs.laws.Arrays.{array_from}
 use Rattle.sift_document.specs.laws.Places.{so_far}
 use Rattle.sift_document.specs.laws.ReadEntries.{array_between-none, array_between-other, array_between-whole, each_read-push}
-use Rattle.sift_document.specs.Document.{word_value}
 use Rattle.sift_document.proofs.value.word_array.Goals as goal
 use Rattle.sift_document.proofs.value.word_array.Goals.{then-entries-low-via-then-entries-low, then-entries-low-via-else-entries-low+then-high-entries}
 

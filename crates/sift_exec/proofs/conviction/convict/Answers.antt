@@ -3,8 +3,8 @@ use Rattle.std.specs.FinSet as set
 use Rattle.std.proofs.lemmas.Bool.{lt-ltb, le-ltb}
 use Rattle.sift_base.specs.Units.{holds, has}
 use Rattle.sift_config.specs.laws.Lists.{has_front, get-drop}
-use Rattle.sift_exec.specs.Conviction.{names_by}
 use Rattle.sift_config.specs.laws.Joining.{passing_joins, failing_stays}
+use Rattle.sift_exec.specs.Conviction.{names_by}
 use Rattle.sift_exec.proofs.conviction.convict.Goals as goal
 use Rattle.sift_exec.proofs.conviction.convict.Goals.{then-accusers_of-ge-ENOUGH_ACCUSERS, else-accusers_of-ge-ENOUGH_ACCUSERS}
 use Rattle.sift_exec.proofs.Accusing.{accusers}

@@ -1,8 +1,8 @@
 use Rattle.std.proofs.Common.{◌∙◌, length, ap, arith}
+use Rattle.sift_exec.specs.laws.Counted.{enough_decides, few_decides, filter-≤}
 use Rattle.sift_mission.specs.Parts.{flown_of}
 use Rattle.sift_flight.specs.Figures.{config_at}
 use Rattle.sift_flight.specs.Told.{told}
-use Rattle.sift_exec.specs.laws.Counted.{enough_decides, few_decides, filter-≤}
 use Rattle.sift_flight.proofs.figures.is_sound_at.Goals as goal
 
 pub overflow_sub-faulty : goal.overflow_sub-faulty

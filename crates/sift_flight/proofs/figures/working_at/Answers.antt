@@ -1,9 +1,9 @@
 use Rattle.std.proofs.Common.{◌≡◌, ◌++◌, ◌∷◌, [], ◌∙◌, length, sym, ap, arith}
 use Rattle.std.proofs.lemmas.List.Elements.{All-push}
 use Rattle.sift_base.specs.laws.Counts.{has_place}
+use Rattle.sift_exec.specs.laws.Counted.{filter-yes, filter-no, filter-room}
 use Rattle.sift_mission.specs.Parts.{flown_of}
 use Rattle.sift_flight.specs.Figures.{Works}
-use Rattle.sift_exec.specs.laws.Counted.{filter-yes, filter-no, filter-room}
 use Rattle.sift_flight.proofs.figures.working_at.Goals.{then-works, else-works}
 use Rattle.sift_flight.proofs.figures.working_at.Goals as goal
 

@@ -1,9 +1,10 @@
 use Rattle.std.proofs.Common.{ℕ, Bool, ◌≡◌, ◌≤◌, ◌∙◌, sym, subst, add-one, arith, length, slice_get, Some}
+use Rattle.sift_config.specs.laws.FirstUnits.{first_is_zero}
 use Rattle.sift_mission.specs.Parts.{flown_of}
 use Rattle.sift_flight.specs.Figures.{Works}
 use Rattle.sift_flight.specs.laws.Leading.{lead_works}
-use Rattle.sift_flight.specs.laws.Firsts.{found_here, found_later, found_nowhere, first_is_zero}
 use Rattle.sift_flight.proofs.told.lead_of.Goals as goal
+use Rattle.sift_flight.proofs.Firsts.{found_here, found_later, found_nowhere}
 
 pub returns-then-works-clause-lead : goal.returns-then-works-clause-lead
 returns-then-works-clause-lead c =

@@ -2,12 +2,12 @@ use Rattle.std.proofs.Common.{◌≡◌, ℕ, ◌+◌, ◌++◌, ◌∷◌, [], 
 use Rattle.std.proofs.lemmas.List.{map-append}
 use Rattle.std.specs.List.{range_with_len}
 use Rattle.std.proofs.lemmas.Grind.{common_steps}
-use Rattle.sift_base.specs.Draw.{after, draw_at, drawn, next_number}
-use Rattle.sift_base.specs.Word.{word_count}
 use Rattle.toml.specs.Data.{Data}
 use Rattle.toml.specs.View.{view}
-use Rattle.sift_gen.specs.Scenario.{number, sensor_words}
+use Rattle.sift_base.specs.Draw.{after, draw_at, drawn, next_number}
+use Rattle.sift_base.specs.Word.{word_count}
 use Rattle.sift_base.specs.laws.Draws.{after-more, after-none}
+use Rattle.sift_gen.specs.Scenario.{number, sensor_words}
 use Rattle.sift_gen.proofs.Listing.{map-more}
 use Rattle.sift_gen.proofs.sensor.drawn_words.Goals as goal
 

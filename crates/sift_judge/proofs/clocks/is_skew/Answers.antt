@@ -1,8 +1,8 @@
 use Rattle.std.proofs.Common.{rules, ◌-ℤ◌, subst, sym, w64}
+use mir.Val.{SFits}
 use Rattle.sift_skew.specs.Figures.{IsSkew}
 use Rattle.sift_skew.specs.laws.Extremes.{skew_from}
 use Rattle.sift_judge.proofs.Skews.{difference_decides, difference_fits, no_skew}
-use mir.Val.{SFits}
 use Rattle.sift_judge.proofs.clocks.is_skew.Goals as goal
 
 pub overflow_sub-result : goal.overflow_sub-result

@@ -1,7 +1,7 @@
 use Rattle.std.proofs.Common.{◌≡◌, ◌∙◌, ◌&&◌, ℕ, Bool, not, ap, sym}
 use Rattle.std.specs.List.{filter}
 use Rattle.sift_base.specs.Units.{holds, members}
-use Rattle.sift_base.specs.laws.Sets.{filter_same}
+use Rattle.sift_base.specs.laws.Counts.{filter_same}
 use Rattle.sift_mission.specs.Parts.{data_of}
 use Rattle.sift_judge.proofs.UnitSets.{members_left}
 use Rattle.sift_judge.proofs.faults.is_exact.Goals as goal

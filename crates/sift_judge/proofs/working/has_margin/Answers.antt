@@ -1,7 +1,8 @@
 use Rattle.std.proofs.Common.{ℕ, Bool, ◌∙◌, ◌-◌, length, ap, arith}
 use Rattle.std.proofs.lemmas.Bool.{le-leb, leb-true}
+use Rattle.std.proofs.lemmas.List.Sums.{length-filter}
+use Rattle.sift_exec.specs.laws.Counted.{faulty-rest, filter-≤}
 use Rattle.sift_mission.specs.Parts.{data_of}
-use Rattle.sift_exec.specs.laws.Counted.{faulty-rest, filter-count, filter-≤}
 use Rattle.sift_report.specs.Told.{works_in}
 use Rattle.sift_judge.proofs.working.has_margin.Goals as goal
 
@@ -17,7 +18,7 @@ returns-then-faulty-le1 c =
     let all = c.len.ensures.length in
     let working = c.len-working.ensures.value ∙ ap length c.working_in.ensures in
     let rest = faulty-rest works c.args.config.now in
-    let count = filter-count works c.args.config.now in
+    let count = length-filter works c.args.config.now in
     let few = c.if-faulty-le1.true in (
       (λ t. (let enough = leb-true 4 c.len-working.result t in
           record { few = omega (arith, all, working, rest, few); enough = omega (arith, enough, working, count) })),

@@ -1,7 +1,7 @@
 use Rattle.std.proofs.Common.{◌≡◌, ◌∙◌, ℕ, Bool, Option, Some, ap, sym, unwrap_or}
 use Rattle.std.specs.Prelude.{slice_get}
 use Rattle.sift_config.specs.Config.{first_units}
-use Rattle.sift_flight.specs.laws.Firsts.{first_is_zero}
+use Rattle.sift_config.specs.laws.FirstUnits.{first_is_zero}
 use Rattle.sift_mission.specs.Parts.{data_of}
 use Rattle.sift_report.specs.Told.{works_in}
 use Rattle.sift_judge.proofs.Lists.{first_found}

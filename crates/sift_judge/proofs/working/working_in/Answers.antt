@@ -1,8 +1,8 @@
 use Rattle.std.specs.List.{filter}
 use Rattle.std.proofs.lemmas.List.{take_all}
 use Rattle.std.proofs.Common.{◌≡◌, ℕ, Bool, ◌++◌, ◌∷◌, [], ◌∙◌, length, sym, ap, arith, ◌≤◌}
-use Rattle.sift_mission.specs.Parts.{data_of}
 use Rattle.sift_exec.specs.laws.Counted.{filter-yes, filter-no, filter-room}
+use Rattle.sift_mission.specs.Parts.{data_of}
 use Rattle.sift_report.specs.Told.{works_in}
 use Rattle.sift_judge.proofs.working.working_in.Goals.{then-works, else-works}
 use Rattle.sift_judge.proofs.working.working_in.Goals as goal

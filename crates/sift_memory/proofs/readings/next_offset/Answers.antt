@@ -3,10 +3,10 @@ use Rattle.std.specs.Prelude.{FitsSigned}
 use mir.Val.{SFits}
 use Rattle.std.proofs.lemmas.Int.{to_z-of_z}
 use Rattle.std.proofs.lemmas.List.{length-map}
+use Rattle.sift_mission.specs.laws.Offsets.{next_little}
 use Rattle.sift_memory.specs.Memory.{reading_at, offset_after}
 use Rattle.sift_memory.proofs.InTurn.{few_units, others_and_one}
 use Rattle.sift_memory.proofs.Sums.{offset_sum, advanced_fits}
-use Rattle.sift_memory.specs.laws.Offsets.{next_little}
 use Rattle.sift_memory.proofs.readings.next_offset.Goals as goal
 
 -- there are eight units at most

@@ -1,8 +1,8 @@
 use Rattle.std.proofs.Common.{◌≡◌, ◌∙◌, sym, ap, true, false, refl}
 use Rattle.std.proofs.Math.ListN.{drop_of_length-le}
 use Rattle.sift_lang.specs.Tree.{block_of, statement_of}
+use Rattle.sift_lang.specs.laws.Rounds.{block_of-drop}
 use Rattle.sift_program.specs.Program.{block_reads, statement_reads}
-use Rattle.sift_program.proofs.ShapeLemmas.{block_of-drop}
 use Rattle.sift_program.proofs.shapes.+reading.Goals as goal
 
 -- a statement reads the word

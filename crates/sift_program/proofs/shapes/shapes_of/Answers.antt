@@ -2,8 +2,8 @@ use Rattle.std.proofs.Common.{◌<◌, ◌∙◌, length, map, sym, ap, arith}
 use Rattle.std.proofs.lemmas.List.{length-map, map-append, take_all}
 use Rattle.sift_base.specs.Shapes.{AllShapes}
 use Rattle.sift_lang.specs.Tree.{tree_of}
-use Rattle.sift_program.specs.laws.ShapeLists.{length-shapes}
 use Rattle.sift_program.specs.Program.{shapes_from, program_of}
+use Rattle.sift_program.specs.laws.ShapeLists.{length-shapes}
 use Rattle.sift_program.proofs.ShapeLemmas.{shapes_next}
 use Rattle.sift_program.proofs.SoundShapes.{sound_shapes}
 use Rattle.sift_program.proofs.shapes.shapes_of.Goals as goal

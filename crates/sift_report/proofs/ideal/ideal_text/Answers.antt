@@ -2,8 +2,8 @@ use Rattle.std.proofs.Common.{◌≡◌, ◌∙◌, ◌++◌, length, ap, arith,
 use Rattle.std.specs.List.{flat_map, range_with_len}
 use Rattle.std.proofs.lemmas.List.FromFn.{length-map-range_with_len}
 use Rattle.sift_mission.specs.Parts.{data_of, flown_of}
-use Rattle.sift_report.specs.Ideal.{outputs_text, sensed_in}
 use Rattle.sift_line.specs.laws.Printed.{first_text_more}
+use Rattle.sift_report.specs.Ideal.{outputs_text, sensed_in}
 use Rattle.sift_report.proofs.ideal.ideal_text.Goals as goal
 use Rattle.sift_report.proofs.Tells.{ideal_line, frames_text}
 

@@ -1,14 +1,14 @@
 use Rattle.std.proofs.Common.{◌≡◌, ◌∙◌, get_or, sym, ap}
 use Rattle.std.proofs.lemmas.Bool.{eqb-true, eqb-false}
+use Rattle.std.specs.Prelude.{slice_index}
 use Rattle.sift_base.specs.Layout.{slot_number}
 use Rattle.sift_base.specs.declared.slot.Slot.TheVariants.{Out}
+use Rattle.sift_base.specs.Units.{others}
 use Rattle.sift_buffer.specs.Journals.{heard_in, said_in}
 use Rattle.sift_mission.specs.Parts.{flown_of}
 use Rattle.sift_flight.specs.Told.{told}
 use Rattle.sift_report.proofs.Heard.{journal-heard, journal-place, journal-said, place-other, place-own}
 use Rattle.sift_report.proofs.poll.place_of.Goals as goal
-use Rattle.std.specs.Prelude.{slice_index}
-use Rattle.sift_base.specs.Units.{others}
 
 pub said-requires : goal.said-requires
 said-requires c =

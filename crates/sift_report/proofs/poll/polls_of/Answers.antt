@@ -1,9 +1,9 @@
 use Rattle.std.proofs.Common.{◌≡◌, ℕ, Option, ◌++◌, ◌∷◌, [], ◌∙◌, length, map, take, sym, ap, arith}
 use Rattle.std.specs.List.{filter}
 use Rattle.std.proofs.lemmas.List.{length-map}
+use Rattle.sift_exec.specs.laws.Counted.{filter-yes, filter-no, filter-room}
 use Rattle.sift_mission.specs.Parts.{flown_of}
 use Rattle.sift_flight.specs.Told.{told}
-use Rattle.sift_exec.specs.laws.Counted.{filter-yes, filter-no, filter-room}
 use Rattle.sift_report.specs.Poll.{poll_of}
 use Rattle.sift_report.specs.declared.poll.Poll.{Poll}
 use Rattle.sift_report.proofs.Polls.{polls_more}

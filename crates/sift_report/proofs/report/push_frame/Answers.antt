@@ -1,9 +1,9 @@
 use Rattle.std.proofs.Common.{arith}
 use Rattle.sift_base.specs.laws.Counts.{has_place}
 use Rattle.sift_mission.specs.Parts.{flown_of}
+use Rattle.sift_line.specs.laws.Printed.{line_more, frame_ends}
 use Rattle.sift_flight.specs.Told.{told}
 use Rattle.sift_report.specs.Sheet.{unit_line}
-use Rattle.sift_line.specs.laws.Printed.{line_more, frame_ends}
 use Rattle.sift_report.proofs.Held.{on_ok, one_more, all_of_frame}
 use Rattle.sift_report.proofs.report.push_frame.Goals as goal
 

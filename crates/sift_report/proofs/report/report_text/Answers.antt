@@ -1,12 +1,12 @@
 use Rattle.std.proofs.Common.{◌≡◌, [], ◌++◌, ◌∙◌, suc, ◌-◌, true, false, add-one, sym, ap, arith, string_bytes}
 use Rattle.std.specs.List.{flat_map, range_with_len}
 use Rattle.sift_mission.specs.Parts.{flown_of}
+use Rattle.sift_line.specs.Line.{printed, text_of_lines}
+use Rattle.sift_line.specs.laws.Printed.{line_after, lines_more}
 use Rattle.sift_flight.specs.Figures.{margin_before}
 use Rattle.sift_flight.specs.Told.{told}
-use Rattle.sift_line.specs.Line.{printed, text_of_lines}
 use Rattle.sift_report.specs.Sheet.{frame_lines, last_line}
 use Rattle.sift_report.proofs.Held.{one_frame_more, all_of_report}
-use Rattle.sift_line.specs.laws.Printed.{line_after, lines_more}
 use Rattle.sift_report.proofs.report.report_text.Goals.{then-margin, else-margin}
 use Rattle.sift_report.proofs.report.report_text.Goals as goal
 

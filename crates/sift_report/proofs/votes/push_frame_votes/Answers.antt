@@ -1,8 +1,8 @@
 use Rattle.sift_base.specs.laws.Counts.{has_place}
 use Rattle.sift_mission.specs.Parts.{data_of, flown_of}
+use Rattle.sift_line.specs.laws.Printed.{unit_more}
 use Rattle.sift_flight.specs.Told.{told}
 use Rattle.sift_report.specs.Votes.{unit_votes}
-use Rattle.sift_line.specs.laws.Printed.{unit_more}
 use Rattle.sift_report.proofs.votes.push_frame_votes.Goals as goal
 
 pub push_unit_votes-requires-clause-unit : goal.push_unit_votes-requires-clause-unit

@@ -1,7 +1,7 @@
 use Rattle.sift_mission.specs.Parts.{data_of, flown_of}
+use Rattle.sift_line.specs.laws.Printed.{text_more}
 use Rattle.sift_flight.specs.Told.{told}
 use Rattle.sift_report.specs.Votes.{vote_text}
-use Rattle.sift_line.specs.laws.Printed.{text_more}
 use Rattle.sift_report.proofs.votes.push_task_votes.Goals as goal
 
 pub loop-j-preserved : goal.loop-j-preserved

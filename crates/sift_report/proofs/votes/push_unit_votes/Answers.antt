@@ -1,10 +1,10 @@
 use Rattle.std.proofs.Common.{arith}
 use Rattle.std.proofs.lemmas.Grind.{common_steps}
 use Rattle.sift_mission.specs.Parts.{data_of, flown_of}
-use Rattle.sift_flight.specs.Told.{told}
-use Rattle.sift_report.proofs.Polls.{next_first, task_there, word_room}
 use Rattle.sift_line.specs.laws.Printed.{text_more}
+use Rattle.sift_flight.specs.Told.{told}
 use Rattle.sift_report.specs.Votes.{task_votes}
+use Rattle.sift_report.proofs.Polls.{next_first, task_there, word_room}
 use Rattle.sift_report.proofs.votes.push_unit_votes.Goals as goal
 
 pub push_task_votes-requires-clause-words : goal.push_task_votes-requires-clause-words

@@ -1,9 +1,9 @@
 use Rattle.std.proofs.Common.{◌≡◌, ◌++◌, ◌∙◌, ap, arith}
 use Rattle.std.specs.List.{flat_map, range_with_len}
-use Rattle.sift_report.specs.Sheet.{end_of}
 use Rattle.sift_mission.specs.Parts.{data_of, flown_of}
-use Rattle.sift_flight.specs.Told.{told}
 use Rattle.sift_line.specs.laws.Printed.{first_text_more}
+use Rattle.sift_flight.specs.Told.{told}
+use Rattle.sift_report.specs.Sheet.{end_of}
 use Rattle.sift_report.proofs.votes.votes_text.Goals as goal
 use Rattle.sift_report.proofs.Tells.{frame_votes}
 

@@ -7,17 +7,17 @@ use Rattle.sift_base.specs.Layout.{least_units}
 use Rattle.sift_base.specs.Units.{unit_limit}
 use Rattle.sift_table.specs.Rules.{report_lead}
 use Rattle.sift_table.specs.Schedule.{agreed_in, hearing_delay, shortest_period}
-use Rattle.sift_mission.specs.PartsFit.{longest_period}
-use Rattle.sift_document.specs.laws.Order.{stopped}
 use Rattle.sift_document.specs.Document.{members_of}
 use Rattle.sift_document.specs.Rules.{AreKept}
 use Rattle.sift_document.specs.Testing.{RefusesFirst}
+use Rattle.sift_document.specs.laws.Order.{stopped}
 use Rattle.sift_document.specs.laws.Numbers.{between_at, between_or}
+use Rattle.sift_mission.specs.PartsFit.{longest_period}
+use Rattle.sift_sections.specs.Table.{schedules_by, table_rules}
+use Rattle.sift_sections.specs.laws.Named.{later_table_rules}
+use Rattle.sift_scenario.specs.Task.{task_entries}
 use Rattle.sift_scenario.proofs.Read.{count_is}
 use Rattle.sift_scenario.proofs.Themes.{for_version, root_refused, theme_refused, themes_kept}
-use Rattle.sift_sections.specs.Table.{schedules_by, table_rules}
-use Rattle.sift_scenario.specs.Task.{task_entries}
-use Rattle.sift_sections.specs.laws.Named.{later_table_rules}
 use Rattle.sift_scenario.proofs.document.entries_of.Goals as goal
 
 -- a rule of the root is broken

@@ -1,10 +1,10 @@
 use Rattle.std.proofs.Common.{ℕ, List, Some, below_more, map, take, sym, ◌∙◌, arith}
 use Rattle.toml.specs.Data.{Members}
 use Rattle.toml.specs.View.{table_view}
+use Rattle.std.proofs.lemmas.List.{length-map, take_all}
 use Rattle.sift_document.specs.laws.Places.{fails_here, holds_here, in_two_steps, nowhere, read_more}
 use Rattle.sift_document.specs.laws.Testing.{first_broken}
 use Rattle.sift_scenario.specs.Task.{IsNewName, name_of}
-use Rattle.std.proofs.lemmas.List.{length-map, take_all}
 use Rattle.sift_scenario.proofs.entries.names_in.Goals as goal
 
 -- no name is a new one of the entry at a place

@@ -1,13 +1,13 @@
 use Rattle.std.proofs.Common.{◌≡◌, Err, rules, map, length, sym, subst, ◌∙◌, ap, arith, Some}
 use Rattle.std.proofs.lemmas.List.{length-map}
 use Rattle.sift_lang.specs.Tree.{tree_of}
-use Rattle.sift_parse.specs.Roll.{Roll, roll_of}
 use Rattle.sift_document.specs.laws.Order.{refused_from}
-use Rattle.sift_scenario.proofs.Read.{length_is, roll_read, running_from, sensors_few, task_refused, turns_are, words_are, words_few}
+use Rattle.sift_parse.specs.Roll.{Roll, roll_of}
 use Rattle.sift_scenario.specs.Refusal.{IsFirstRefused}
 use Rattle.sift_scenario.specs.Testing.{AreTurns, form_of}
-use Rattle.sift_scenario.proofs.Named.{AreTreesOf}
 use Rattle.sift_scenario.specs.Task.{name_of, start_words, tasks_of}
+use Rattle.sift_scenario.proofs.Read.{length_is, roll_read, running_from, sensors_few, task_refused, turns_are, words_are, words_few}
+use Rattle.sift_scenario.proofs.Named.{AreTreesOf}
 use Rattle.sift_scenario.proofs.program.run_entries.Goals as goal
 
 -- the sensors and the start words are few

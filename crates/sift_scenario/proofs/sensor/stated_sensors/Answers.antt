@@ -1,11 +1,11 @@
 use Rattle.std.proofs.Common.{◌≡◌, [], Some, Err, rules, map, ap, ◌∙◌, length, arith}
 use Rattle.toml.specs.View.{table_view, view}
+use Rattle.sift_document.specs.Document.{tables_in}
 use Rattle.sift_document.specs.laws.Order.{stopped}
-use Rattle.sift_scenario.proofs.Starts.{names_from, unwrapped}
 use Rattle.sift_sections.specs.laws.Values.{read_values}
 use Rattle.sift_scenario.specs.Sensor.{sensor_rules, words_of}
 use Rattle.sift_scenario.specs.Task.{name_of}
-use Rattle.sift_document.specs.Document.{tables_in}
+use Rattle.sift_scenario.proofs.Starts.{names_from, unwrapped}
 use Rattle.sift_scenario.proofs.sensor.stated_sensors.Goals as goal
 
 -- `sensor` is no array of tables

@@ -3,9 +3,9 @@ use Rattle.std.proofs.lemmas.List.{get_or-map, length-map}
 use Rattle.std.proofs.lemmas.Bool.{eqb-true}
 use Rattle.toml.specs.View.{view}
 use Rattle.toml.specs.declared.value.Value.{Value}
+use Rattle.sift_document.specs.Document.{word_value}
 use Rattle.sift_document.specs.laws.Arrays.{array_from}
 use Rattle.sift_document.specs.laws.ReadEntries.{array_between-none, array_between-other, array_between-whole, value-all, value-step}
-use Rattle.sift_document.specs.Document.{word_value}
 use Rattle.sift_scenario.proofs.sensor.word_list.Goals as goal
 use Rattle.sift_scenario.proofs.sensor.word_list.Goals.{then-is_empty-via-then-is_empty, then-is_empty-via-else-is_empty+then-entries-gt1000}
 

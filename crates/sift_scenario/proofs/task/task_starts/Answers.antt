@@ -1,9 +1,9 @@
 use Rattle.std.proofs.Common.{◌≡◌, Some, None, below_more, sym, ◌∙◌, arith, map}
 use Rattle.toml.specs.View.{table_view}
+use Rattle.std.proofs.lemmas.List.{length-map, take_all}
 use Rattle.sift_document.specs.laws.Places.{fails_here, holds_here, nowhere, read_more}
 use Rattle.sift_document.specs.laws.Testing.{first_broken}
 use Rattle.sift_scenario.specs.Task.{start_words}
-use Rattle.std.proofs.lemmas.List.{length-map, take_all}
 use Rattle.sift_scenario.proofs.task.task_starts.Goals as goal
 
 -- a task has no start words

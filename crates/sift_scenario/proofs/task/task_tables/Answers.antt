@@ -1,10 +1,10 @@
 use Rattle.std.proofs.Common.{◌≡◌, ◌<◌, ◌≤◌, length, ap, map, sym, ◌∙◌, arith}
 use Rattle.std.proofs.lemmas.List.{length-map}
 use Rattle.toml.specs.View.{table_view, view}
-use Rattle.sift_document.specs.laws.Order.{ok_from}
-use Rattle.sift_document.specs.laws.Places.{map_map}
 use Rattle.sift_base.specs.Shapes.{task_limit}
 use Rattle.sift_document.specs.Document.{members_of}
+use Rattle.sift_document.specs.laws.Order.{ok_from}
+use Rattle.sift_document.specs.laws.Places.{map_map}
 use Rattle.sift_scenario.proofs.TaskTests.{tested_tasks}
 use Rattle.sift_scenario.proofs.Testing.{some_entry}
 use Rattle.sift_scenario.proofs.task.task_tables.Goals as goal

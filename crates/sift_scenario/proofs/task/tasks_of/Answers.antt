@@ -3,11 +3,11 @@ use Rattle.std.proofs.lemmas.List.{length-map}
 use Rattle.std.specs.List.{sum}
 use Rattle.toml.specs.View.{table_view}
 use Rattle.sift_base.specs.Layout.{word_limit}
-use Rattle.sift_document.specs.laws.Order.{stopped}
 use Rattle.sift_document.specs.Testing.{RefusesBy}
-use Rattle.sift_scenario.proofs.Starts.{counts_from}
+use Rattle.sift_document.specs.laws.Order.{stopped}
 use Rattle.sift_sections.specs.laws.Values.{read_values}
 use Rattle.sift_scenario.specs.Task.{counts_of, name_of, start_words, task_rules, tasks_of}
+use Rattle.sift_scenario.proofs.Starts.{counts_from}
 use Rattle.sift_scenario.proofs.task.tasks_of.Goals as goal
 
 -- `task` is no array of tables

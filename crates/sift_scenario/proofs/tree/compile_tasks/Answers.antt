@@ -1,17 +1,17 @@
 use Rattle.std.proofs.Common.{◌≡◌, ◌<◌, [], ◌∷◌, ◌++◌, length, map, Err, rules, refl, sym, subst, ◌∙◌, arith}
 use Rattle.std.proofs.lemmas.List.{length-map, map-append}
 use Rattle.sift_lang.specs.Tree.{tree_of}
-use Rattle.sift_parse.proofs.lemmas.Sound.{has_words}
+use Rattle.sift_document.specs.laws.Order.{refused_from}
+use Rattle.sift_document.specs.laws.Places.{matches_more, taken}
 use Rattle.sift_parse.specs.Outcome.{AreNames}
 use Rattle.sift_parse.specs.Roll.{Roll, roll_of}
 use Rattle.sift_parse.specs.declared.names.Names.{Names}
-use Rattle.sift_document.specs.laws.Order.{refused_from}
-use Rattle.sift_document.specs.laws.Places.{matches_more, taken}
-use Rattle.sift_scenario.proofs.Codes.{allowed_more, codes_more, left_more, sound_form}
-use Rattle.sift_scenario.proofs.Turns.{code_first, same_turn, text_first}
+use Rattle.sift_parse.proofs.lemmas.Sound.{has_words}
 use Rattle.sift_scenario.specs.Program.{IsTreeOf, turn_of}
 use Rattle.sift_scenario.specs.Refusal.{IsNoTask}
 use Rattle.sift_scenario.specs.Testing.{form_of}
+use Rattle.sift_scenario.proofs.Codes.{allowed_more, codes_more, left_more, sound_form}
+use Rattle.sift_scenario.proofs.Turns.{code_first, same_turn, text_first}
 use Rattle.sift_scenario.proofs.tree.compile_tasks.Goals as goal
 
 -- it is this task's turn

@@ -1,8 +1,8 @@
 use Rattle.std.proofs.Common.{◌≡◌, Err, rules}
 use Rattle.toml.specs.View.{table_view}
 use Rattle.sift_document.specs.laws.Order.{stopped}
-use Rattle.sift_sections.proofs.Figures.{few_error, few_rate, few_skew, length_kept, length_refused, skew_kept, skew_refused}
 use Rattle.sift_sections.specs.Clock.{figure_rules}
+use Rattle.sift_sections.proofs.Figures.{few_error, few_rate, few_skew, length_kept, length_refused, skew_kept, skew_refused}
 use Rattle.sift_sections.proofs.clock.figures_of.Goals as goal
 
 -- the figures are within their limits

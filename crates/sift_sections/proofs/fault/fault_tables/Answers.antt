@@ -1,9 +1,9 @@
 use Rattle.std.proofs.Common.{◌≡◌, Err, rules, arith}
 use Rattle.toml.specs.View.{table_view, view}
+use Rattle.sift_document.specs.Document.{IsTableOf}
 use Rattle.sift_document.specs.laws.EntryTests.{as_many_entries, of_entries, refused_whole, tested}
 use Rattle.sift_document.specs.laws.Order.{ok_from}
 use Rattle.sift_sections.specs.Fault.{fault_limit}
-use Rattle.sift_document.specs.Document.{IsTableOf}
 use Rattle.sift_sections.specs.laws.Named.{fault_keys}
 use Rattle.sift_sections.proofs.fault.fault_tables.Goals as goal
 

@@ -2,9 +2,9 @@ use Rattle.std.proofs.Common.{inl, inr}
 use Rattle.std.specs.Prelude.{codes}
 use Rattle.toml.specs.View.{table_view, view}
 use Rattle.sift_document.specs.Document.{IsTableOf}
-use Rattle.sift_sections.proofs.Faulting.{alone_where, found_where, not_alone}
-use Rattle.sift_sections.specs.laws.Named.{storm_keys}
 use Rattle.sift_sections.specs.Fault.{AreItems}
+use Rattle.sift_sections.specs.laws.Named.{storm_keys}
+use Rattle.sift_sections.proofs.Faulting.{alone_where, found_where, not_alone}
 use Rattle.sift_sections.proofs.fault.has_one_way.Goals as goal
 
 -- a `say` stands alone

@@ -2,10 +2,10 @@ use Rattle.std.proofs.Common.{map, sym, ap, subst, take, ◌∙◌, refl}
 use Rattle.std.proofs.lemmas.List.{get_or-map, length-map, take_all}
 use Rattle.std.proofs.lemmas.List.Elements.{All-push}
 use Rattle.toml.specs.View.{view}
-use Rattle.sift_document.specs.laws.Places.{so_far}
 use Rattle.sift_document.specs.Document.{IsTableOf}
-use Rattle.sift_sections.proofs.Faulting.{if_found, if_missing}
+use Rattle.sift_document.specs.laws.Places.{so_far}
 use Rattle.sift_sections.specs.Item.{item_keys}
+use Rattle.sift_sections.proofs.Faulting.{if_found, if_missing}
 use Rattle.sift_sections.proofs.fault.have_item_keys.Goals as goal
 
 -- an entry is no table, or has an unknown key

@@ -1,9 +1,9 @@
 use Rattle.std.proofs.Common.{◌≡◌, ◌∙◌, None, map, take, sym, ap}
 use Rattle.std.proofs.lemmas.List.{get_or-map, length-map, map-append}
 use Rattle.toml.specs.View.{view}
+use Rattle.sift_document.specs.Document.{members_of}
 use Rattle.sift_document.specs.laws.Places.{so_far}
 use Rattle.sift_document.specs.laws.ReadEntries.{each_read-none, each_read-push, read-all}
-use Rattle.sift_document.specs.Document.{members_of}
 use Rattle.sift_sections.specs.Item.{change_in}
 use Rattle.sift_sections.proofs.fault.items_in.Goals as goal
 

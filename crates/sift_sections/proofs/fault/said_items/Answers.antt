@@ -2,10 +2,10 @@ use Rattle.std.proofs.Common.{◌≡◌, ◌∙◌, None, Some, ap, below_more, 
 use Rattle.std.proofs.lemmas.List.{length-map, take_all}
 use Rattle.toml.specs.View.{table_view}
 use Rattle.sift_script.specs.Script.{change_of}
+use Rattle.sift_document.specs.Document.{each_read}
 use Rattle.sift_document.specs.laws.EntryTests.{of_entries}
 use Rattle.sift_document.specs.laws.Places.{fails_here, holds_here, nowhere, read_more}
 use Rattle.sift_document.specs.laws.Testing.{first_broken}
-use Rattle.sift_document.specs.Document.{each_read}
 use Rattle.sift_sections.specs.Fault.{changes_of}
 use Rattle.sift_sections.specs.Item.{change_in}
 use Rattle.sift_sections.proofs.fault.said_items.Goals as goal

@@ -7,9 +7,9 @@ use Rattle.toml.specs.View.{table_view}
 use Rattle.sift_script.specs.Script.{change_of, failing_of, fault_of}
 use Rattle.sift_document.specs.laws.Places.{fails_here, holds_here, nowhere, read_more}
 use Rattle.sift_document.specs.laws.Testing.{first_broken}
-use Rattle.sift_sections.proofs.Faulting.{as_many, fault_taken, planned_storm, unplanned_storm}
 use Rattle.sift_sections.specs.Fault.{fault_in, stated_storm}
 use Rattle.sift_sections.specs.laws.Named.{failing_from}
+use Rattle.sift_sections.proofs.Faulting.{as_many, fault_taken, planned_storm, unplanned_storm}
 use Rattle.sift_sections.proofs.fault.script_from.Goals as goal
 
 -- each place has a head and a table

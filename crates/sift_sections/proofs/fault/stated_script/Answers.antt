@@ -1,12 +1,12 @@
 use Rattle.std.proofs.Common.{◌≡◌, ◌∙◌, Some, Err, map, rules, ap}
 use Rattle.toml.specs.View.{table_view, view}
 use Rattle.sift_script.specs.Script.{change_of}
-use Rattle.sift_document.specs.laws.Order.{ok_from, stopped}
 use Rattle.sift_document.specs.Document.{tables_in}
-use Rattle.sift_sections.proofs.Faulting.{faults_read, faults_refused, faults_tested, storms_tested}
+use Rattle.sift_document.specs.laws.Order.{ok_from, stopped}
+use Rattle.sift_sections.specs.Fault.{fault_in, fault_rules}
 use Rattle.sift_sections.specs.laws.Named.{each_fault_rules}
 use Rattle.sift_sections.specs.laws.Values.{read_values}
-use Rattle.sift_sections.specs.Fault.{fault_in, fault_rules}
+use Rattle.sift_sections.proofs.Faulting.{faults_read, faults_refused, faults_tested, storms_tested}
 use Rattle.sift_sections.proofs.fault.stated_script.Goals as goal
 
 -- `fault` is no array of tables

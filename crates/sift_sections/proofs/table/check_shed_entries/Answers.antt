@@ -1,8 +1,8 @@
 use Rattle.std.proofs.Common.{◌≡◌, true, false, None, below_more, arith}
 use Rattle.toml.specs.View.{view}
+use Rattle.sift_document.specs.Document.{members_of}
 use Rattle.sift_document.specs.laws.Places.{fails_here, holds_here, nowhere}
 use Rattle.sift_document.specs.laws.Testing.{first_broken}
-use Rattle.sift_document.specs.Document.{members_of}
 use Rattle.sift_sections.specs.Table.{shed_of}
 use Rattle.sift_sections.proofs.table.check_shed_entries.Goals as goal
 

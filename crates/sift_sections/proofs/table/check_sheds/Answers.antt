@@ -1,7 +1,7 @@
 use Rattle.std.proofs.Common.{List, refl, subst}
 use Rattle.toml.specs.Data.{Members}
-use Rattle.sift_document.specs.laws.EntryTests.{of_entries}
 use Rattle.sift_document.specs.Testing.{Tests}
+use Rattle.sift_document.specs.laws.EntryTests.{of_entries}
 use Rattle.sift_sections.specs.laws.Named.{BreaksShed}
 use Rattle.sift_sections.proofs.table.check_sheds.Goals as goal
 

@@ -2,9 +2,9 @@ use Rattle.std.proofs.Common.{◌≡◌, Some, None, below_more, map, sym, ◌�
 use Rattle.std.proofs.lemmas.List.{length-map, take_all}
 use Rattle.std.proofs.lemmas.List.Elements.{All-push}
 use Rattle.toml.specs.View.{table_view, view}
+use Rattle.sift_document.specs.Document.{members_of}
 use Rattle.sift_document.specs.laws.Places.{fails_here, holds_here, nowhere, read_more}
 use Rattle.sift_document.specs.laws.Testing.{first_broken}
-use Rattle.sift_document.specs.Document.{members_of}
 use Rattle.sift_sections.specs.Table.{size_of, IsTableEntry}
 use Rattle.sift_sections.proofs.table.entries_by_size.Goals as goal
 

@@ -4,9 +4,9 @@ use Rattle.toml.specs.View.{table_view}
 use Rattle.sift_table.specs.Schedule.{schedule_of}
 use Rattle.sift_document.specs.laws.Places.{fails_here, holds_here, nowhere, read_more}
 use Rattle.sift_document.specs.laws.Testing.{first_broken}
-use Rattle.sift_sections.proofs.TableReading.{positionless}
 use Rattle.sift_sections.specs.Reading.{IsPartial}
 use Rattle.sift_sections.specs.Table.{positions_of, schedule_in}
+use Rattle.sift_sections.proofs.TableReading.{positionless}
 use Rattle.sift_sections.proofs.table.read_tables.Goals as goal
 
 -- a table doesn't say where the tasks are run

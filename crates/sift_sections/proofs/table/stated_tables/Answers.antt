@@ -1,11 +1,11 @@
 use Rattle.std.proofs.Common.{◌≡◌, ℕ, Some, Err, rules, map, ap, subst, ◌∙◌, List, length, arith}
 use Rattle.toml.specs.Data.{Members}
 use Rattle.toml.specs.View.{table_view, view}
+use Rattle.sift_document.specs.Testing.{RefusesBy, Tests}
+use Rattle.sift_document.specs.Document.{tables_in}
 use Rattle.sift_document.specs.laws.Order.{ended, ok_from, stopped}
 use Rattle.sift_document.specs.laws.Places.{map_map}
-use Rattle.sift_document.specs.Testing.{RefusesBy, Tests}
 use Rattle.sift_sections.specs.Table.{schedule_in, table_rules}
-use Rattle.sift_document.specs.Document.{tables_in}
 use Rattle.sift_sections.specs.laws.Named.{BreaksTimes, BreaksPositions}
 use Rattle.sift_sections.proofs.table.stated_tables.Goals as goal
 

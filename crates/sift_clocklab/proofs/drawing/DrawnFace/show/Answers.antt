@@ -1,8 +1,8 @@
 use Rattle.std.proofs.Common.{◌≡◌, ◌+◌, Some, false, refl, sym, ap, ◌∙◌, w32, to_z, of_z, arith, rules}
 use Rattle.std.proofs.lemmas.Int.{ints}
 use Rattle.std.proofs.lemmas.Bool.{ne_eqb}
-use Rattle.sift_base.specs.laws.Draws.{after-one}
 use Rattle.sift_base.specs.Draw.{after, drawn}
+use Rattle.sift_base.specs.laws.Draws.{after-one}
 use Rattle.sift_clocklab.specs.Draws.{shows_nothing, spread}
 use Rattle.sift_clocklab.proofs.Numbers.{after-next}
 use Rattle.sift_clocklab.proofs.drawing.DrawnFace.show.Goals as goal

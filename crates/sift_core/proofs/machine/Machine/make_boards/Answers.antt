@@ -1,8 +1,8 @@
 use Rattle.std.proofs.Common.{◌≡◌, ℕ, ap, subst, arith}
 use Rattle.std.proofs.lemmas.Grind.{common_steps}
+use Rattle.sift_config.specs.laws.FirstUnits.{low_unit}
 use Rattle.sift_mission.specs.Parts.{flown_of}
 use Rattle.sift_core.specs.Machines.{AreNewBoards}
-use Rattle.sift_config.specs.laws.FirstUnits.{low_unit}
 use Rattle.sift_core.proofs.NewMachines.{boards_push}
 use Rattle.sift_core.proofs.machine.Machine.make_boards.Goals as goal
 

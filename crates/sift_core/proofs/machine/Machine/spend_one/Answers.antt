@@ -1,6 +1,6 @@
+use Rattle.sift_config.specs.laws.FirstUnits.{unit_low}
 use Rattle.sift_mission.specs.Parts.{data_of, flown_of}
 use Rattle.sift_core.specs.Courses.{course}
-use Rattle.sift_config.specs.laws.FirstUnits.{unit_low}
 use Rattle.sift_core.proofs.MachineSteps.{unit_below}
 use Rattle.sift_core.proofs.Storming.{called_by, shot_there, spender_turned, spent_way, spent_storms}
 use Rattle.sift_core.proofs.machine.Machine.spend_one.Goals as goal

@@ -2,7 +2,6 @@
 use Rattle.std.proofs.Common.{◌≡◌, ◌≤◌, ℕ, zero, suc, List, [], ◌∷◌, length, drop, Bool, true, false, Some, unwrap_or, refl, arith}
 use Rattle.std.specs.Prelude.{slice_get}
 use Rattle.std.specs.List.{find}
-use Rattle.sift_config.specs.Config.{first_units}
 
 -- a list from a place on begins with the unit at that place
 drop_here : (us : List ℕ) (i u : ℕ) → slice_get us i ≡ Some u → drop i us ≡ u ∷ drop (suc i) us
@@ -30,8 +29,3 @@ module _ (passes : ℕ → Bool) (us : List ℕ) (i u : ℕ) (there : slice_get 
 -- past the end of the list there is none
 pub found_nowhere : (passes : ℕ → Bool) (us : List ℕ) (i : ℕ) → length us ≤ i → unwrap_or (find passes (drop i us)) 0 ≡ 0
 found_nowhere passes us i seen = rw (nothing_left us i seen) refl
-
--- the first of a computer's units has the number 0
-pub first_is_zero : (n u : ℕ) → slice_get (first_units n) 0 ≡ Some u → u ≡ 0
-first_is_zero zero u e = absurd cc
-first_is_zero (suc n) u e = cc

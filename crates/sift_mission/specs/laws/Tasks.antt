@@ -4,6 +4,6 @@ use Rattle.sift_mission.specs.Data.{FlownMission}
 use Rattle.sift_mission.specs.Fits.{Fits}
 
 module _ (m : FlownMission) (fit : Fits m) where
-  -- tasks are fewer than slots
+  -- tasks are no more than slots
   pub few_tasks : m.tasks ≤ m.slots
   few_tasks = let t = fit.counted.tasks in let w = fit.counted.words in omega arith
