@@ -10,7 +10,7 @@ use Rattle.sift_mission.specs.Data.{MissionData}
 use Rattle.sift_mission.specs.Parts.{data_of}
 use Rattle.sift_mission.specs.PartsFit.{HasWords, PartsFit}
 use Rattle.sift_mission.specs.declared.parts.MissionParts.{MissionParts}
-use Rattle.sift_mission.specs.laws.ByWords.{get_or-map}
+use Rattle.sift_mission.specs.laws.ByWords.{get_or-map_default}
 
 module _ (d : MissionData) (fit : PartsFit d) (u : ℕ) (there : has (first_units d.units) u ≡ true) where
   -- a unit is one of those that there are
@@ -43,7 +43,7 @@ module _ (parts : MissionParts) (fit : PartsFit (data_of parts)) (x : ℕ) (low 
   words-there row is =
       let rows = map (λ (words : Vec ℕ Global). words.items) parts.sensors.items in
       let has_words : HasWords (get_or rows x row.items) = fit.sensors x row.items (omega (arith, sensor-low, length-map parts.sensors.items (λ words. words.items))) in
-      let same : get_or rows x row.items ≡ row.items = get_or-map (λ (words : Vec ℕ Global). words.items) parts.sensors.items x row ∙ ap (λ (words : Vec ℕ Global). words.items) (sym is) in
+      let same : get_or rows x row.items ≡ row.items = get_or-map_default (λ (words : Vec ℕ Global). words.items) parts.sensors.items x row ∙ ap (λ (words : Vec ℕ Global). words.items) (sym is) in
       omega (arith, has_words.0, ap length same)
 
 -- the row of errors of a unit
@@ -52,7 +52,7 @@ pub errors-row : (parts : MissionParts) (fit : PartsFit (data_of parts)) (u : �
 errors-row parts fit u low row is =
     let rows = (data_of parts).clock.errors in
     get_or_default rows u [] row.items low
-    ∙ (get_or-map (λ (r : ArrayVec ℤ). r.items) parts.clock.errors.items u row ∙ ap (λ (r : ArrayVec ℤ). r.items) (sym is))
+    ∙ (get_or-map_default (λ (r : ArrayVec ℤ). r.items) parts.clock.errors.items u row ∙ ap (λ (r : ArrayVec ℤ). r.items) (sym is))
 
 -- it stands among the rows of the parts
 pub errors-place : (parts : MissionParts) (fit : PartsFit (data_of parts)) (u : ℕ) → has (first_units (data_of parts).units) u ≡ true → u < length parts.clock.errors.items

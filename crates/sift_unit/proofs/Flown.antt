@@ -6,7 +6,7 @@ use Rattle.sift_buffer.specs.Conduct.{never}
 use Rattle.sift_buffer.specs.Conduct.{Conduct as Acts}
 use Rattle.sift_mission.specs.Fits.{Fits}
 use Rattle.sift_mission.specs.Data.{FlownMission}
-use Rattle.sift_mission.specs.laws.ByWords.{get_or-map}
+use Rattle.sift_mission.specs.laws.ByWords.{get_or-map_default}
 use Rattle.sift_conduct.specs.Conduct.{Account, account_of}
 use Rattle.sift_conduct.specs.declared.account.Account.{Account as TheAccount}
 use Rattle.sift_memory.specs.Memory.{Memory}
@@ -68,7 +68,7 @@ account_law m b v d =
     let counts = counted m d.fits b.turned (desk_of b) v.conduct d.keeps in
     let count : length b.accounts.items ≡ b.frame = sym (length-map b.accounts.items account_of) ∙ r.count in
     let read : (f : ℕ) (a : TheAccount) → slice_index_or (desk_of b).accounts f (account_of a) ≡ account_of (account_at b f a)
-    = λ f a. get_or-map account_of b.accounts.items f a in
+    = λ f a. get_or-map_default account_of b.accounts.items f a in
     let low : (f : ℕ) → f < b.frame → f ≤ 1000 = λ f below. (let most = r.frame in let few = d.fits.counted.frames in omega arith) in
     let later : (f : ℕ) → f < b.frame → f + 1 ≤ 1000 = λ f below. (let most = r.frame in let few = d.fits.counted.frames in omega arith) in
     record {

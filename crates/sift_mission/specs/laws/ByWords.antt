@@ -40,15 +40,15 @@ by_word-push t (first ∷ tasks) task =
     ∙ sym (append_assoc (replicate first.outputs t) (by_word (suc t) tasks) (replicate task.outputs (suc t + length tasks))))
 
 -- an element of a list, as another type has it
-pub get_or-map : {X Y : Type 0} (f : X → Y) (xs : List X) (i : ℕ) (x : X) → get_or (map f xs) i (f x) ≡ f (get_or xs i x)
-get_or-map f [] i x = refl
-get_or-map f (y ∷ xs) zero x = refl
-get_or-map f (y ∷ xs) (suc i) x = get_or-map f xs i x
+pub get_or-map_default : {X Y : Type 0} (f : X → Y) (xs : List X) (i : ℕ) (x : X) → get_or (map f xs) i (f x) ≡ f (get_or xs i x)
+get_or-map_default f [] i x = refl
+get_or-map_default f (y ∷ xs) zero x = refl
+get_or-map_default f (y ∷ xs) (suc i) x = get_or-map_default f xs i x
 
 module _ (tasks : List Task) (t : ℕ) (task : Task) (low : t < length tasks) (is : task ≡ get_or tasks t task) where
   -- the tree of a task among all
   tree-is : get_or (map tree_of tasks) t (tree_of task) ≡ tree_of task
-  tree-is = get_or-map tree_of tasks t task ∙ ap tree_of (sym is)
+  tree-is = get_or-map_default tree_of tasks t task ∙ ap tree_of (sym is)
 
   -- the words of a task more
   pub by_word-more : by_word 0 (take (t + 1) (map tree_of tasks)) ≡ by_word 0 (take t (map tree_of tasks)) ++ replicate task.outputs t
