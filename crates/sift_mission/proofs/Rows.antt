@@ -43,7 +43,8 @@ module _ (parts : MissionParts) (fit : PartsFit (data_of parts)) (x : ℕ) (low 
   words-there row is =
       let rows = map (λ (words : Vec ℕ Global). words.items) parts.sensors.items in
       let has_words : HasWords (get_or rows x row.items) = fit.sensors x row.items (omega (arith, sensor-low, length-map parts.sensors.items (λ words. words.items))) in
-      let same : get_or rows x row.items ≡ row.items = get_or-map_default (λ (words : Vec ℕ Global). words.items) parts.sensors.items x row ∙ ap (λ (words : Vec ℕ Global). words.items) (sym is) in
+      let same : get_or rows x row.items ≡ row.items =
+      get_or-map_default (λ (words : Vec ℕ Global). words.items) parts.sensors.items x row ∙ ap (λ (words : Vec ℕ Global). words.items) (sym is) in
       omega (arith, has_words.0, ap length same)
 
 -- the row of errors of a unit
