@@ -64,6 +64,7 @@ module _ (m : FlownMission) (strays : Strays) (fl : Flight) (f : ℕ) (us : List
       let r' : Member m f us r = record { member = hr; works = wr } in
       hears m strays fl f us here q r (RelayReport s) q' r' (relayed_call m strays fl f us here s r q hs r' q' rs qs ne)
 
+  -- the report that q takes for that of r
   abbrev pub report : ℕ → ℕ → ℕ
   report q r = report_of us q (fl.account q f) (fl.heard q f) r
 

@@ -84,6 +84,7 @@ module _ (m : FlownMission) (stray : StrayHearing) (f : ℕ) (start : ℕ → St
     next_clk = (start u).clk;
   }
 
+  -- the inputs that a unit agrees on
   abbrev pub inputs : ℕ → List ℕ
   inputs u = row (input_of (frame_by u (starting u) (places_by (λ w. unknown) unknown u))) m.sensors
 
@@ -106,6 +107,7 @@ module _ (m : FlownMission) (stray : StrayHearing) (f : ℕ) (start : ℕ → St
   outs_to zero u = []
   outs_to (suc n) u = outs_to n u ++ (vote_by (outs_to n) n u ∷ [])
 
+  -- all of them
   abbrev pub outputs : ℕ → List ℕ
   outputs = outs_to m.words
 

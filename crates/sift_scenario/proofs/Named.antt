@@ -18,10 +18,11 @@ use Rattle.sift_scenario.specs.Task.{AreForms, Form, HasForm, start_words, task_
 
 -- ---- keys and values
 
--- the keys of sensors and tasks
+-- the keys of sensors
 abbrev pub sensor_keys : List (List ℕ)
 sensor_keys = codes "name" ∷ codes "words" ∷ []
 
+-- and of tasks
 abbrev pub task_keys : List (List ℕ)
 task_keys = codes "name" ∷ codes "start" ∷ codes "text" ∷ codes "linear" ∷ []
 
@@ -37,12 +38,13 @@ AreTreesOf roll forms trees = AreMatched (λ task form tree. IsTreeOf (turn_of t
 abbrev pub TasksAreRefused : (sensors : List (List ℕ)) → List Members → Refused → Type 0
 TasksAreRefused sensors tasks refused = (forms : List Form) × AreForms tasks forms × IsFirstRefused (roll_for sensors tasks) forms refused
 
--- ---- rules
+-- ---- rules of tasks
 
--- rules of tasks
+-- the start words of the task at a place aren't read
 abbrev pub BreaksStarts : List Members → ℕ → Type 0
 BreaksStarts tasks place = HoldsOf tasks place (λ task. start_words task ≡ None)
 
+-- it has no form
 abbrev pub BreaksForms : List Members → ℕ → Type 0
 BreaksForms tasks place = HoldsOf tasks place (λ task. (form : Form) → ¬ HasForm task form)
 

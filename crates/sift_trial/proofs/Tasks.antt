@@ -54,10 +54,11 @@ keys_known t sensors x = All-from_recursion (Contains task_keys) (keys_of (drawn
 -- ---- all of them
 
 module _ (tasks sensors x : ℕ) where
-  -- the entries of each task's table, and its text
+  -- the entries of each task's table
   abbrev pub entries_at : ℕ → Members
   entries_at t = drawn_entries t sensors (task_place t x)
 
+  -- and its text
   abbrev pub text_at : ℕ → List ℕ
   text_at t = drawn_text t sensors (task_place t x)
 

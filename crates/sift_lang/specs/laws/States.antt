@@ -41,6 +41,7 @@ sizes-round locals outs body s has only =
     let kept = sizes-scoped body s only in
     record { locals_are = kept.locals_are ∙ has.locals_are; outs_are = kept.outs_are ∙ has.outs_are }
 
+-- a statement leaves at least as many locals as it found
 pub le-locals_after : (locals : ℕ) (statement : Statement) → locals ≤ locals_after locals statement
 le-locals_after locals (bind t) = omega arith
 le-locals_after locals (assign l t) = omega arith
