@@ -47,6 +47,14 @@ module _ {B : Type 0} (m : FlownMission) (e : Ether) (faulty : ℕ) where
   boarded_long (t ∷ ts) (b ∷ bs) [] all = absurd all
   boarded_long (t ∷ ts) (b ∷ bs) (x ∷ xs) all = let long = boarded_long ts bs xs all.1 in (ap suc long.0, ap suc long.1)
 
+  -- where a bus is still to come, the units so far have a token each, and are fewer than the buses
+  pub boarded_before : (ts : List Token) (bs left rest all : List B) (b : B) (xs : List (Boarded B)) → AreBoarded m e faulty ts bs xs →
+      left ≡ b ∷ rest → bs ++ left ≡ all → (length ts ≡ length xs) × (length xs < length all)
+  boarded_before ts bs left rest all b xs boarded next are =
+      let long = boarded_long ts bs xs boarded in
+      let less = shorter bs rest all b (ap (λ ys. bs ++ ys) (sym next) ∙ are) in
+      (omega (arith, long.0, long.1), omega (arith, long.1, less))
+
   -- one unit more
   pub boarded_push : (ts : List Token) (bs : List B) (xs : List (Boarded B)) (t : Token) (b : B) (x : Boarded B) → AreBoarded m e faulty ts bs xs →
       IsBoarded m e faulty t b x → AreBoarded m e faulty (ts ++ (t ∷ [])) (bs ++ (b ∷ [])) (xs ++ (x ∷ []))
