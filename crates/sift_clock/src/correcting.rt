@@ -1,17 +1,15 @@
 //! The correction of a clock by its readings of the others.
 
-ghost use Rattle.std.specs.Prelude.{◌≡◌, ℕ, ◌+◌, ◌≤◌, pos, ◌+ℤ◌, length, FitsSigned};
+ghost use Rattle.std.specs.Prelude.{◌≡◌, ◌+◌, ◌+ℤ◌, length, FitsSigned};
 ghost use Rattle.std.specs.Int.{w64};
 ghost use Rattle.sift_clock.specs.Correction.{counted, correction_of};
 
 use crate::hearing::too_far;
 
-/// The correction of a clock among `n` clocks: the floor of the mean of what it reads of all of
-/// them, its own clock read as 0. A reading that is absent or too far counts as 0.
+/// The correction of a clock among `n` clocks, in ticks: the floor of the mean of what it reads of all
+/// of them, its own clock read as 0. A reading that is absent or too far counts as 0.
 pub fn correction(readings: &[Option<i32>], limit: i32, n: u8) -> i64
-    requires four { 4 ≤ n }
-    requires eight { n ≤ 8 }
-    requires others { length readings.now + 1 ≡ n }
+    requires { length readings.now + 1 ≡ n }
     ensures { result ≡ correction_of limit n readings.now }
 {
     let mut sum: i64 = 0;

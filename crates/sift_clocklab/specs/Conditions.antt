@@ -23,10 +23,6 @@ tick_limit = pos 8000
 abbrev pub AreTicks : ℤ → Type 0
 AreTicks ticks = (pos 0 ≤ℤ ticks) × (ticks ≤ℤ tick_limit)
 
--- the ticks are the farthest that a reading may be and isn't too far: a skew and an error
-abbrev pub AreFarthest : ℤ → Type 0
-AreFarthest ticks = (pos 0 ≤ℤ ticks) × (ticks ≤ℤ pos 16000)
-
 -- the numbers are in the ranges of a laboratory
 pub record AreInRange (n m : ℕ) (skew error rate : ℤ) (rounds : ℕ) : Type 0 where
   pub some_clocks : 1 ≤ n

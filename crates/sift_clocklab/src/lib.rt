@@ -5,7 +5,6 @@
 #![tactic(auto)]
 
 mod admitting;
-mod correcting;
 mod drawing;
 mod drawn_lab;
 mod face;
@@ -16,7 +15,6 @@ mod reading;
 mod running;
 
 pub use admitting::admits;
-pub use correcting::correct;
 pub use drawing::Drawn;
 pub use drawn_lab::{LabStop, drawn};
 pub use face::Face;
@@ -27,3 +25,4 @@ pub use laws::{
 };
 pub use printing::lab_text;
 pub use running::run_lab;
+pub use sift_clock::correction as correct;

@@ -7,10 +7,9 @@ ghost use Rattle.sift_clocklab.specs.Rounds.{offset_after, reading_of, ticks_ahe
 ghost use Rattle.sift_clocklab.specs.Conditions.{BothWork, IsReady};
 ghost use Rattle.sift_clocklab.specs.Skew.{AreKept, IsRound, farthest};
 
-use crate::correcting::correct;
 use crate::lab::Lab;
 use arrayvec::ArrayVec;
-use sift_clock::advance;
+use sift_clock::{advance, correction};
 
 /// What the working clock `own` reads of another one that works: how far it is ahead, misread.
 fn ahead(lab: &Lab, offsets: &[i64], own: u8, other: u8) -> i32
@@ -60,7 +59,7 @@ pub(crate) fn offset_after(lab: &Lab, offsets: &[i64], shown: &[Option<i32>], ow
     requires own { own < working_of (laboratory_of lab.now) }
     ensures { result ≡ offset_after (laboratory_of lab.now) offsets.now shown.now own }
 {
-    let correction = correct(&readings(lab, offsets, shown, own), lab.limit(), lab.n);
+    let mean = correction(&readings(lab, offsets, shown, own), lab.limit(), lab.n);
     let at = usize::from(own);
-    advance(offsets[at], correction, lab.drift[at])
+    advance(offsets[at], mean, lab.drift[at])
 }

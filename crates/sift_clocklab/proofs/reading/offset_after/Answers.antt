@@ -2,7 +2,6 @@ use Rattle.std.proofs.Common.{◌≡◌, ℕ, ◌+◌, ◌<◌, List, length, ma
 use Rattle.std.proofs.lemmas.Int.{ints, to_z-of_z}
 use Rattle.std.proofs.lemmas.List.{get_or_default, length-map}
 use Rattle.std.proofs.lemmas.List.FromFn.{length-range_with_len}
-use Rattle.std.proofs.lemmas.Grind.{common_steps}
 use mir.Val.{SFits}
 use Rattle.sift_base.specs.Units.{others}
 use Rattle.sift_clock.specs.Distance.{IsWithin}
@@ -47,8 +46,8 @@ sum_fits : (x n : ℤ) → x ≡ n → IsWithin (pos (farthest + 24000)) n (pos 
 sum_fits x n is near = rw is (omega (arith, ints, near))
 
 -- a clock reads all but itself
-pub correct-correction-requires-clause-others : goal.correct-correction-requires-clause-others
-correct-correction-requires-clause-others c =
+pub correction-mean-requires : goal.correction-mean-requires
+correction-mean-requires c =
     let lab = laboratory_of c.args.lab.now in
     let all = length-others-range c.args.own 0 lab.n (omega arith) (omega arith) in
     let read = ap length c.readings.ensures
@@ -62,16 +61,16 @@ advance-requires c =
     let limit : to_z w32 (of_z w32 c.limit.result) ≡ reading_limit (laboratory_of a.lab.now) =
     to_z-of_z w32 c.limit.result (record { sfits = c.limit.type_inv }) ∙ c.limit.ensures in
     let sum = sum_is (laboratory_of a.lab.now) a.offsets.now a.shown.now a.own c.from-at.result (to_z w32 (of_z w32 c.limit.result))
-    c.correct-correction.result c.index.result.now c.requires.round c.requires.own (record {
+    c.correction-mean.result c.index.result.now c.requires.round c.requires.own (record {
       place = c.from-at.ensures;
       limit_is = limit;
-      correction_is = c.correct-correction.ensures
+      correction_is = c.correction-mean.ensures
           ∙ ap (correction_of (to_z w32 (of_z w32 c.limit.result)) a.lab.now.n) (c.deref.ensures.0 ∙ c.readings.ensures);
       drift_is = c.index.ensures;
     }) in
     let at_fits : SFits w64 (offset_of a.offsets.now c.from-at.result) = search rules in
     let drift_fits : SFits w32 c.index.result.now = search rules in
-    let held = parts_held _ _ _ at_fits (record { sfits = c.correct-correction.type_inv }) drift_fits in
+    let held = parts_held _ _ _ at_fits (record { sfits = c.correction-mean.type_inv }) drift_fits in
     sum_fits _ _ (held ∙ sum.0) sum.1
 
 pub returns : goal.returns
@@ -80,17 +79,14 @@ returns c =
     let limit : to_z w32 (of_z w32 c.limit.result) ≡ reading_limit (laboratory_of a.lab.now) =
     to_z-of_z w32 c.limit.result (record { sfits = c.limit.type_inv }) ∙ c.limit.ensures in
     let sum = sum_is (laboratory_of a.lab.now) a.offsets.now a.shown.now a.own c.from-at.result (to_z w32 (of_z w32 c.limit.result))
-    c.correct-correction.result c.index.result.now c.requires.round c.requires.own (record {
+    c.correction-mean.result c.index.result.now c.requires.round c.requires.own (record {
       place = c.from-at.ensures;
       limit_is = limit;
-      correction_is = c.correct-correction.ensures
+      correction_is = c.correction-mean.ensures
           ∙ ap (correction_of (to_z w32 (of_z w32 c.limit.result)) a.lab.now.n) (c.deref.ensures.0 ∙ c.readings.ensures);
       drift_is = c.index.ensures;
     }) in
     let at_fits : SFits w64 (offset_of a.offsets.now c.from-at.result) = search rules in
     let drift_fits : SFits w32 c.index.result.now = search rules in
-    let held = parts_held _ _ _ at_fits (record { sfits = c.correct-correction.type_inv }) drift_fits in
+    let held = parts_held _ _ _ at_fits (record { sfits = c.correction-mean.type_inv }) drift_fits in
     to_z-of_z w64 c.advance.result (record { sfits = c.advance.type_inv }) ∙ c.advance.ensures ∙ held ∙ sum.0
-
-pub correct-correction-requires-clause-limit : goal.correct-correction-requires-clause-limit
-correct-correction-requires-clause-limit c = grind (arith, common_steps)

@@ -10,11 +10,6 @@ use Rattle.sift_memory.proofs.Sums.{offset_sum, advanced_fits}
 use Rattle.sift_memory.proofs.readings.next_offset.Goals as goal
 
 -- there are eight units at most
-pub correction-mean-requires-clause-eight : goal.correction-mean-requires-clause-eight
-correction-mean-requires-clause-eight g c =
-    let config = c.len.ensures.config in
-    omega (arith, few_units 8 0 c.args.config.now (omega arith) config.ascending (λ u there. (omega arith, config.inside u there)), c.len.ensures.length)
-
 pub overflow_cast-len : goal.overflow_cast-len
 overflow_cast-len g c =
     let config = c.len.ensures.config in
@@ -22,8 +17,8 @@ overflow_cast-len g c =
     omega (arith, c.len.ensures.length)
 
 -- the others are one less
-pub correction-mean-requires-clause-others : goal.correction-mean-requires-clause-others
-correction-mean-requires-clause-others g c =
+pub correction-mean-requires : goal.correction-mean-requires
+correction-mean-requires g c =
     let us = c.args.config.now in
     rw (c.deref.ensures.0, c.readings_of-readings.ensures, length-map, c.len.ensures.length) (others_and_one c.args.unit us c.requires.unit.config.ascending c.requires.unit.member)
 
