@@ -3,15 +3,17 @@ use Rattle.std.proofs.Common.{◌≡◌, ℕ, ◌<◌, ◌&&◌, Bool, true, not
 use Rattle.std.proofs.Common.{false, nat_cmp}
 use Rattle.std.proofs.Common.{Option, Some, None, refl}
 use Rattle.std.specs.Prelude.{IfSome, IfNone, slice_index_or, nat_le, if◌then◌else◌}
+use Rattle.std.specs.List.{filter}
 use Rattle.std.proofs.lemmas.Bool.{cases_Bool}
 use Rattle.std.proofs.lemmas.List.{get_or_default}
 use Rattle.std.specs.FinSet as set
 use Rattle.std.specs.Prelude.{ℤ}
 use Rattle.sift_base.specs.Units.{Units, has, holds}
-use Rattle.sift_base.specs.laws.ReadBack.{false_last}
+use Rattle.sift_base.specs.laws.ReadBack.{false_last, has-filter}
 use Rattle.sift_base.specs.laws.Sets.{same_units}
 use Rattle.sift_base.specs.laws.Counts.{filter_same}
-use Rattle.sift_vote.specs.Majority.{IsMajority, HasNoMajority, majority_of}
+use Rattle.sift_vote.specs.Majority.{IsMajority, HasNoMajority, majority_of, differs, has_differing}
+use Rattle.sift_vote.specs.laws.Differing.{has_differing-map}
 use Rattle.sift_config.specs.Config.{remaining}
 use Rattle.sift_vote.specs.laws.Found.{majority_is_found}
 use Rattle.sift_exec.specs.Conviction.{report_by, is_convicted, kept_by, next_by, next_units}
@@ -21,6 +23,19 @@ use Rattle.sift_memory.specs.laws.Sets.{holds-gathered}
 -- a set of those units of a list that pass a test is the one that was gathered
 pub is_gathered : (a : Units) (test : ℕ → Bool) (us : List ℕ) → ((v : ℕ) → holds a v ≡ (has us v && test v)) → a ≡ gathered test us
 is_gathered a test us same = same_units a (gathered test us) (λ v. same v ∙ sym (holds-gathered test us v))
+
+-- whose place differs among those units of a list that pass a test
+pub differing_among : (test : ℕ → Bool) (us : List ℕ) (place : ℕ → Option ℕ) (vote : Option ℕ) (v : ℕ)
+    → has_differing (filter test us) (map place (filter test us)) vote v ≡ (has us v && (test v && differs (place v) vote))
+differing_among test us place vote v =
+    has_differing-map (filter test us) place vote v ∙ ap (λ b. b && differs (place v) vote) (has-filter test us v)
+    ∙ swapped (test v) (has us v) (differs (place v) vote)
+  where
+    swapped : (a b c : Bool) → ((a && b) && c) ≡ (b && (a && c))
+    swapped true true c = refl
+    swapped true false c = refl
+    swapped false true c = refl
+    swapped false false c = refl
 
 -- the set at a place of the list
 pub set_at : (sets : List Units) (i : ℕ) (x : Units) → i < length sets → x ≡ slice_index_or sets i x → x ≡ units_at sets i

@@ -1,6 +1,6 @@
 //! What a unit notes of a slot, all of which it has heard.
 
-ghost use Rattle.std.specs.Prelude.{◌≡◌, ◌<◌, length, ◌&&◌, ℕ, ℤ, List, pos, Some, if◌then◌else◌, map, not, nat_eq, slice_index, true, unwrap_or};
+ghost use Rattle.std.specs.Prelude.{◌≡◌, ◌<◌, ◌≤◌, length, ◌&&◌, ℕ, ℤ, List, pos, Some, if◌then◌else◌, map, not, nat_eq, slice_index, true, unwrap_or};
 ghost use Rattle.std.specs.List.{filter};
 ghost use Rattle.sift_base.specs.Units.{has, holds};
 ghost use Rattle.sift_vote.specs.Majority.{differs as is_other};
@@ -17,10 +17,10 @@ use crate::duty::Duty;
 use crate::memory::Memory;
 use crate::readings::{far_clocks, next_offset};
 use arrayvec::ArrayVec;
-use sift_agree::agree;
+use sift_agree::{agree, relay_catches};
 use sift_base::{Slot, UnitId, UnitSet, Word};
 use sift_config::Config;
-use sift_vote::majority;
+use sift_vote::{differing, majority};
 
 /// A poll of an output word, as a unit takes it.
 #[derive(Clone, Copy)]
@@ -28,8 +28,6 @@ struct Poll<'a> {
     unit: UnitId,
     /// The word's number.
     word: u8,
-    /// The units that put the word out.
-    executors: UnitSet,
     /// What was heard of it, by unit.
     places: &'a [Option<Word>; 8],
     ghost eight: { length places.now ≡ 8 },
@@ -139,26 +137,21 @@ impl Memory {
         ensures noted { (f : ℕ) (clk : ℤ) → memory_of self.new ≡ note_of (M.mission mission.now) config.now unit f clk self.old.words.before (Out word) places.now (memory_of self.old) }
         ensures before { self.new.words.before ≡ self.old.words.before }
     {
-        let executors = mission.executors(config, word);
-        let poll = Poll {
-            unit,
-            word,
-            executors,
-            places,
-        };
-        let ballots = self.ballots(config, &poll);
+        let executors = members_in(config, mission.executors(config, word));
+        let poll = Poll { unit, word, places };
+        let ballots = self.ballots(&executors, &poll);
         let vote = majority(&ballots);
-        let wrong = self.wrong_executors(config, &poll, &vote);
-        let voted = self.voted(word, &ballots, vote);
+        let voted = self.voted(word, &ballots, &vote);
+        let wrong = differing(&executors, &ballots, vote);
         self.words.vote(word, voted);
         self.poll[usize::from(word)] = wrong;
     }
 
     /// The word of a number after its poll: the vote, or 0 where there is none. Where there are no ballots, its task is shed,
     /// and it stays what it was in the frame before.
-    fn voted(&self, word: u8, ballots: &[Option<Word>], vote: Option<Word>) -> Word
+    fn voted(&self, word: u8, ballots: &[Option<Word>], vote: &Option<Word>) -> Word
         requires { word < length self.now.words.before }
-        ensures { result ≡ (if nat_eq (length ballots.now) 0 then slice_index self.now.words.before word else unwrap_or vote 0) }
+        ensures { result ≡ (if nat_eq (length ballots.now) 0 then slice_index self.now.words.before word else unwrap_or vote.now 0) }
     {
         if ballots.is_empty() {
             return self.words.before(word);
@@ -166,17 +159,15 @@ impl Memory {
         vote.unwrap_or(Word::of(0))
     }
 
-    /// The executors' words, in the order of their units. There are none where the word's task is shed.
-    fn ballots(&self, config: &Config, poll: &Poll<'_>) -> ArrayVec<Option<Word>, 8>
-        requires { poll.now.word < length (memory_of self.now).made }
-        ensures { result.items ≡ map (polled_at poll.now.unit (memory_of self.now) poll.now.places.now poll.now.word) (filter (holds poll.now.executors) config.now) }
+    /// The executors' words, in their order. There are none where the word's task is shed.
+    fn ballots(&self, executors: &[UnitId], poll: &Poll<'_>) -> ArrayVec<Option<Word>, 8>
+        requires word { poll.now.word < length (memory_of self.now).made }
+        requires few { length executors.now ≤ 8 }
+        ensures { result.items ≡ map (polled_at poll.now.unit (memory_of self.now) poll.now.places.now poll.now.word) executors.now }
     {
         let mut ballots = ArrayVec::new();
-        for position in 0..config.len() {
-            let executor = config.unit_at(position);
-            if poll.executors.has(executor) {
-                ballots.push(self.ballot(poll, executor));
-            }
+        for executor in executors {
+            ballots.push(self.ballot(poll, *executor));
         }
         ballots
     }
@@ -190,30 +181,6 @@ impl Memory {
             return Some(self.words.made(poll.word));
         }
         poll.places[usize::from(executor.get())]
-    }
-
-    /// The executors whose word is absent, or differs from a vote that is there.
-    fn wrong_executors(&self, config: &Config, poll: &Poll<'_>, vote: &Option<Word>) -> UnitSet
-        requires { poll.now.word < length (memory_of self.now).made }
-        ensures { (v : ℕ) → holds result v ≡
-            (has config.now v && (holds poll.now.executors v && is_other (polled_at poll.now.unit (memory_of self.now) poll.now.places.now poll.now.word v) vote.now)) }
-    {
-        let mut wrong = UnitSet::empty();
-        for position in 0..config.len() {
-            let executor = config.unit_at(position);
-            if self.is_wrong(poll, vote, executor) {
-                wrong = wrong.with(executor);
-            }
-        }
-        wrong
-    }
-
-    /// Whether a unit is an executor whose word is absent, or differs from a vote that is there.
-    fn is_wrong(&self, poll: &Poll<'_>, vote: &Option<Word>, executor: UnitId) -> bool
-        requires { poll.now.word < length (memory_of self.now).made }
-        ensures { result ≡ (holds poll.now.executors executor && is_other (polled_at poll.now.unit (memory_of self.now) poll.now.places.now poll.now.word executor) vote.now) }
-    {
-        poll.executors.has(executor) && differs(&self.ballot(poll, executor), vote)
     }
 
     /// Notes the agreed report of a unit.
@@ -233,37 +200,38 @@ pub(crate) fn place_of(places: &[Option<Word>; 8], unit: UnitId) -> Option<Word>
     places[usize::from(unit.get())]
 }
 
-/// Whether a place is absent, or differs from a vote that is there.
-fn differs(place: &Option<Word>, vote: &Option<Word>) -> bool
-    ensures { result ≡ is_other place.now vote.now }
+/// The places of these units, in their order.
+fn places_of(units: &[UnitId], places: &[Option<Word>; 8]) -> ArrayVec<Option<Word>, 8>
+    requires { length units.now ≤ 8 }
+    ensures { result.items ≡ map (place_at places.now) units.now }
 {
-    match (*place, *vote) {
-        (None, _) => true,
-        (Some(_), None) => false,
-        (Some(word), Some(winner)) => word != winner,
+    let mut found = ArrayVec::new();
+    for unit in units {
+        found.push(place_of(places, *unit));
     }
+    found
+}
+
+/// The units of a configuration that are members of a set, in their order.
+fn members_in(config: &Config, set: UnitSet) -> ArrayVec<UnitId, 8>
+    ensures { result.items ≡ filter (holds set) config.now }
+{
+    let mut found = ArrayVec::new();
+    for position in 0..config.len() {
+        let unit = config.unit_at(position);
+        if set.has(unit) {
+            found.push(unit);
+        }
+    }
+    found
 }
 
 /// The other units that relayed another word than the own one, or none.
 fn liars(config: &Config, unit: UnitId, own: Word, places: &[Option<Word>; 8]) -> UnitSet
     ensures { (v : ℕ) → holds result v ≡ (has config.now v && (not (nat_eq v unit) && is_other (place_at places.now v) (Some own))) }
 {
-    let told = Some(own);
-    let mut liars = UnitSet::empty();
-    for position in 0..config.len() {
-        let other = config.unit_at(position);
-        if lies(unit, &told, places, other) {
-            liars = liars.with(other);
-        }
-    }
-    liars
-}
-
-/// Whether it is another unit, whose relay is absent or differs from what it was told.
-fn lies(unit: UnitId, told: &Option<Word>, places: &[Option<Word>; 8], other: UnitId) -> bool
-    ensures { result ≡ (not (nat_eq other unit) && is_other (place_at places.now other) told.now) }
-{
-    other != unit && differs(&places[usize::from(other.get())], told)
+    let others = members_in(config, config.units().without(unit));
+    relay_catches(own, &others, &places_of(&others, places))
 }
 
 /// Whether it is a unit other than these two.

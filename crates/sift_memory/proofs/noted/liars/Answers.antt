@@ -1,29 +1,38 @@
-use Rattle.std.proofs.Common.{ℕ, ◌&&◌, not, nat_eq, take, nat_cmp, ap, ◌∙◌, sym}
+use Rattle.std.proofs.Common.{◌≡◌, ◌&&◌, not, nat_eq, length, map, ap, ◌∙◌, arith}
 use Rattle.std.specs.Prelude.{Some}
-use Rattle.std.specs.FinSet as set
-use Rattle.sift_base.specs.Units.{holds, has}
-use Rattle.sift_vote.specs.Majority.{differs}
-use Rattle.sift_config.specs.laws.Lists.{has_front, get-drop}
-use Rattle.sift_config.specs.laws.Joining.{passing_joins, failing_stays}
+use Rattle.std.proofs.lemmas.List.{length-map}
+use Rattle.sift_base.specs.Units.{holds, others}
+use Rattle.sift_base.specs.laws.Counts.{filter_same}
+use Rattle.sift_base.specs.laws.ReadBack.{true_last}
+use Rattle.sift_base.specs.laws.Sets.{holds-remove}
+use Rattle.sift_vote.specs.Majority.{has_differing}
 use Rattle.sift_memory.specs.Memory.{place_at}
+use Rattle.sift_memory.proofs.Memories.{differing_among}
 use Rattle.sift_memory.proofs.noted.liars.Goals as goal
-use Rattle.sift_memory.proofs.noted.liars.Goals.{then-lies, else-lies}
 
-pub loop-position-init : goal.loop-position-init
-loop-position-init c = λ v. ap (λ units. holds units v) c.empty-liars.ensures ∙ set.contains-empty nat_cmp v
+-- each of the others has its place beside it
+pub relay_catches-requires : goal.relay_catches-requires
+relay_catches-requires c =
+    omega (
+      arith,
+      ap length c.deref.ensures.0,
+      ap length c.deref-2.ensures.0,
+      ap length c.deref-3.ensures.0,
+      ap length c.places_of.ensures,
+      length-map c.deref-2.result.now (place_at c.args.places.now),
+    )
 
--- one unit more
-pub loop-position-preserved : goal.loop-position-preserved
-loop-position-preserved c = λ v.
+pub returns : goal.returns
+returns c = λ v.
     let us = c.args.config.now in
-    let i = c.loop-position.position in
-    let t = c.unit_at-other.result in
-    let seen = λ (u : ℕ). has (take i us) u in
-    let caught = λ (u : ℕ). not (nat_eq u c.args.unit) && differs (place_at c.args.places.now u) (Some c.args.own) in
-    let front = ap (λ b. b && caught v) (has_front us v i t (get-drop us i ∙ c.unit_at-other.ensures)) in
-    elim c.if-lies.branch [
-      | then-lies w ↦ ap (λ units. holds units v) (w.liars-is ∙ w.with-liars.ensures)
-          ∙ passing_joins c.loop-position.liars seen caught t c.loop-position.invariant (sym c.lies.ensures ∙ w.if-lies.true) v ∙ sym front
-      | else-lies w ↦ ap (λ units. holds units v) w.liars-is
-          ∙ failing_stays c.loop-position.liars seen caught t c.loop-position.invariant (sym c.lies.ensures ∙ w.if-lies.false) v ∙ sym front
-    ]
+    let u = c.args.unit in
+    let heard = c.args.places.now in
+    let others_are : c.members_in-others.result.items ≡ others u us
+    = c.members_in-others.ensures ∙ filter_same (holds c.without.result) (λ v. not (nat_eq v u)) us (λ v there.
+    ap (λ units. holds units v) c.without.ensures ∙ holds-remove c.units.result u v
+    ∙ ap (λ b. not (nat_eq v u) && b) (c.units.ensures.set v ∙ there) ∙ true_last (not (nat_eq v u))) in
+    let units : c.deref.result.now ≡ others u us = c.deref.ensures.0 ∙ others_are in
+    let relays : c.deref-3.result.now ≡ map (place_at heard) (others u us)
+    = c.deref-3.ensures.0 ∙ c.places_of.ensures ∙ ap (map (place_at heard)) (c.deref-2.ensures.0 ∙ others_are) in
+    c.relay_catches.ensures v ∙ (λ i. has_differing (units i) (relays i) (Some c.args.own) v)
+    ∙ differing_among (λ v. not (nat_eq v u)) us (place_at heard) (Some c.args.own) v
