@@ -5,6 +5,7 @@ pub mod InTurn
 pub mod Making
 pub mod Memories
 pub mod Polls
+pub mod Recording
 pub mod Splices
 pub mod Sums
 pub mod Tests

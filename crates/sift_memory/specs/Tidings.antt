@@ -21,9 +21,13 @@ poll_now m us b = gathered (λ v. list_any (λ w. holds (units_at b.poll w) v) (
 abbrev pub relay_now : FlownMission → List ℕ → Memory → Units
 relay_now m us b = gathered (λ v. list_any (λ x. holds (units_at b.relay x) v) (range_with_len 0 m.sensors)) us
 
+-- the units that were caught by their clocks
+abbrev pub clock_now : List ℕ → Memory → Units
+clock_now us b = gathered (holds b.clock) us
+
 -- all that were caught, by kind
 abbrev pub bad_now : FlownMission → List ℕ → Memory → Catches
-bad_now m us b = record { poll = poll_now m us b; relay = relay_now m us b; clock = b.clock }
+bad_now m us b = record { poll = poll_now m us b; relay = relay_now m us b; clock = clock_now us b }
 
 -- ---- what is said
 

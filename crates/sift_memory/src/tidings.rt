@@ -15,7 +15,7 @@ use crate::memory::Memory;
 use sift_base::{Slot, UnitId, UnitSet, Word};
 use sift_clock::clock_word;
 use sift_config::Config;
-use sift_exec::Catches;
+use sift_exec::{Catches, Kind, Recorder};
 
 impl Memory {
     /// The word to say in a slot to a unit: the own word, or what the script puts in its place. There is
@@ -72,8 +72,7 @@ impl Memory {
         requires fits { Fits (M.mission mission.now) }
         ensures { result ≡ report_now (M.mission mission.now) config.now (memory_of self.now) }
     {
-        let Catches { poll, relay, clock } = self.catches(mission, config);
-        Word::of(u16::from(poll.union(relay).union(clock).bits()))
+        Word::of(u16::from(self.record(mission, config).mask().bits()))
     }
 
     /// All that were caught, by kind.
@@ -81,11 +80,30 @@ impl Memory {
         requires fits { Fits (M.mission mission.now) }
         ensures { result ≡ bad_now (M.mission mission.now) config.now (memory_of self.now) }
     {
-        Catches {
-            poll: within(union_of(&self.poll, mission.words()), config),
-            relay: within(union_of(&self.relay, mission.sensors()), config),
-            clock: self.clock,
+        self.record(mission, config).catches()
+    }
+
+    /// The record of all that were caught.
+    fn record<M: Duty>(&self, mission: &M, config: &Config) -> Recorder
+        requires fits { Fits (M.mission mission.now) }
+        ensures { result ≡ bad_now (M.mission mission.now) config.now (memory_of self.now) }
+    {
+        let polled = union_of(&self.poll, mission.words());
+        let relayed = union_of(&self.relay, mission.sensors());
+        let mut recorder = Recorder::new();
+        for position in 0..config.len() {
+            let unit = config.unit_at(position);
+            if polled.has(unit) {
+                recorder.note(unit, Kind::Poll);
+            }
+            if relayed.has(unit) {
+                recorder.note(unit, Kind::Relay);
+            }
+            if self.clock.has(unit) {
+                recorder.note(unit, Kind::Clock);
+            }
         }
+        recorder
     }
 }
 
@@ -99,18 +117,4 @@ fn union_of(sets: &[UnitSet], count: usize) -> UnitSet
         all = all.union(sets[i]);
     }
     all
-}
-
-/// The members of a set that are units of a configuration.
-fn within(all: UnitSet, config: &Config) -> UnitSet
-    ensures { (v : ℕ) → holds result v ≡ (has config.now v && holds all v) }
-{
-    let mut found = UnitSet::empty();
-    for position in 0..config.len() {
-        let unit = config.unit_at(position);
-        if all.has(unit) {
-            found = found.with(unit);
-        }
-    }
-    found
 }

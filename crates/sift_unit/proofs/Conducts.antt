@@ -40,7 +40,8 @@ module _ (m : FlownMission) (us : List ℕ) (u f : ℕ) (clk : ℤ) (a : Account
     relays = λ v. ap (λ (z : Account). holds z.bad.relay v) e ∙ holds-gathered _ us v
         ∙ and_in (has us v) _ _ (λ t. any-same m.sensors _ _ (λ x low. (heard (RelaySense x) (lt-ltb x m.sensors low)).1 v ∙ rw t refl)
         ∙ any-and (range_with_len 0 m.sensors) (not (nat_eq v u)) _);
-    clocks = λ v. ap (λ (z : Account). holds z.bad.clock v) e ∙ (heard Clock refl).0 v ∙ rw ck refl;
+    clocks = λ v. ap (λ (z : Account). holds z.bad.clock v) e ∙ holds-gathered (holds b.clock) us v
+        ∙ and_in (has us v) _ _ (λ t. (heard Clock refl).0 v ∙ rw (ck, t) refl);
     next_cfg = ap (λ (z : Account). z.next_cfg) e ∙ next-same (names_now m us u b) (λ r v. has_bit (report_of us u a h r) v) us named;
     next_clk = ap (λ (z : Account). z.next_clk) e ∙ (heard Clock refl).1
         ∙ (λ i. corrected_offset (m.skew +ℤ m.error) us (reading_by (with_clock here (back i))) (back i) u +ℤ m.drift u);
