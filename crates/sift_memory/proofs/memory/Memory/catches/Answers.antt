@@ -1,6 +1,7 @@
 use Rattle.std.proofs.Common.{◌≡◌, ◌&&◌, ap, ◌∙◌}
 use Rattle.std.specs.List.{list_any, range_with_len}
 use Rattle.sift_base.specs.Units.{has, holds}
+use Rattle.sift_mission.specs.Parts.{flown_of}
 use Rattle.sift_memory.specs.Memory.{units_at}
 use Rattle.sift_memory.specs.Tidings.{poll_now, relay_now}
 use Rattle.sift_memory.specs.Memories.{memory_of}
@@ -8,8 +9,8 @@ use Rattle.sift_memory.proofs.Memories.{is_gathered}
 use Rattle.sift_memory.proofs.memory.Memory.catches.Goals as goal
 
 pub returns : goal.returns
-returns g c =
-    let m = g.M.Duty.mission c.args.mission.now in
+returns c =
+    let m = flown_of c.args.mission.now in
     let us = c.args.config.now in
     let b = memory_of c.args.self.now in
     let polls : c.within.result ≡ poll_now m us b = is_gathered c.within.result (λ v. list_any (λ w. holds (units_at b.poll w) v) (range_with_len 0 m.words)) us
