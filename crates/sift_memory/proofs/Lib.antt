@@ -1,5 +1,4 @@
 pub mod Carved
-pub mod Due
 pub mod Filing
 pub mod InTurn
 pub mod Making

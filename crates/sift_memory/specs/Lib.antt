@@ -3,6 +3,5 @@ pub mod Conditions
 pub mod FrameWords
 pub mod Memories
 pub mod Memory
-pub mod Stops
 pub mod Tidings
 pub mod laws

@@ -2,18 +2,10 @@
 //! and what it says and accounts for by that.
 #![tactic(auto)]
 
-mod accounting;
-mod duties;
-mod duty;
 mod memory;
 mod noted;
-mod part;
 mod readings;
-mod spans;
 mod tidings;
 mod word_file;
 
-pub use duty::Duty;
 pub use memory::Memory;
-pub use part::Part;
-pub use word_file::WordFile;

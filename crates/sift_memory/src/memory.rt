@@ -1,17 +1,19 @@
 //! What a unit remembers in a frame.
 
-ghost use Rattle.std.specs.Prelude.{◌≡◌, ℕ, IfOk, length, true};
+ghost use Rattle.std.specs.Prelude.{◌≡◌, ◌<◌, ℕ, IfOk, length, true};
 ghost use Rattle.sift_base.specs.Units.{has};
 ghost use Rattle.sift_mission.specs.Fits.{Fits};
-ghost use Rattle.sift_memory.specs.Memory.{run as run_of};
+ghost use Rattle.sift_mission.specs.Parts.{flown_of};
+ghost use Rattle.sift_memory.specs.FrameWords.{HasAllWords};
+ghost use Rattle.sift_memory.specs.Memory.{run as run_of, with_task_made};
 ghost use Rattle.sift_memory.specs.Conditions.{IsShaped, IsTaskOf};
 ghost use Rattle.sift_memory.specs.Memories.{memory_of, TurnsInShape, TakesBefore};
 
-use crate::duty::Duty;
 use crate::word_file::WordFile;
 use sift_base::{NoMemory, UnitId, UnitSet, Word};
 use sift_conduct::Account;
 use sift_config::Config;
+use sift_mission::{Mission, a_mission_flies};
 use std::alloc::Global;
 
 /// What a unit remembers of a frame: by sensor, by word and by unit.
@@ -38,10 +40,10 @@ pub struct Memory {
 impl Memory {
     /// A memory with room for all that is to be remembered of a mission's frames, and the words before
     /// frame 0. `NoMemory` comes where there is no memory for its words; no other call takes any.
-    pub fn make<M: Duty>(alloc: Global, mission: &M) -> Result<Memory, NoMemory>
-        requires fits { Fits (M.mission mission.now) }
-        ensures shape { IfOk result (λ b. (u : ℕ) → has (M.mission mission.now).units u ≡ true → IsShaped (M.mission mission.now) (M.mission mission.now).units u (memory_of b)) }
-        ensures before { IfOk result (λ b. b.words.before ≡ (M.mission mission.now).starts) }
+    pub fn make(alloc: Global, mission: &Mission) -> Result<Memory, NoMemory>
+        requires fits { Fits (flown_of mission.now) }
+        ensures shape { IfOk result (λ b. (u : ℕ) → has (flown_of mission.now).units u ≡ true → IsShaped (flown_of mission.now) (flown_of mission.now).units u (memory_of b)) }
+        ensures before { IfOk result (λ b. b.words.before ≡ (flown_of mission.now).starts) }
     {
         Ok(Memory {
             clock: UnitSet::empty(),
@@ -58,15 +60,15 @@ impl Memory {
     /// Runs a task, where the unit is to run it, on the agreed words, this frame's voted words and those
     /// of the frame before.
     #[inline(never)]
-    pub fn run<M: Duty>(&mut self, mission: &M, config: &Config, unit: UnitId, task: usize)
-        requires task { IsTaskOf (M.mission mission.now) config.now task }
-        requires shape { IsShaped (M.mission mission.now) config.now unit (memory_of self.old) }
-        requires before { has config.now unit ≡ true → length self.old.words.before ≡ (M.mission mission.now).words }
-        ensures made { memory_of self.new ≡ run_of (M.mission mission.now) config.now unit self.old.words.before task (memory_of self.old) }
+    pub fn run(&mut self, mission: &Mission, config: &Config, unit: UnitId, task: usize)
+        requires task { IsTaskOf (flown_of mission.now) config.now task }
+        requires shape { IsShaped (flown_of mission.now) config.now unit (memory_of self.old) }
+        requires before { has config.now unit ≡ true → length self.old.words.before ≡ (flown_of mission.now).words }
+        ensures made { memory_of self.new ≡ run_of (flown_of mission.now) config.now unit self.old.words.before task (memory_of self.old) }
         ensures before { self.new.words.before ≡ self.old.words.before }
     {
         if mission.runs(config, task, unit) {
-            mission.make_words(task, &mut self.words);
+            make_words(mission, task, &mut self.words);
         }
     }
 
@@ -82,4 +84,15 @@ impl Memory {
         }
         self.words.rest();
     }
+}
+
+/// Makes the words of a task of the agreed words, this frame's words and those before, by the task's checked code.
+fn make_words(mission: &Mission, task: usize, words: &mut WordFile)
+    requires task { task < (flown_of mission.now).tasks }
+    requires all { HasAllWords (flown_of mission.now) words.old }
+    ensures { words.new ≡ with_task_made (flown_of mission.now) task words.old }
+{
+    a_mission_flies(mission);
+    let made = words.run(mission.code(task));
+    words.keep_made(mission.first_word(task), &made);
 }

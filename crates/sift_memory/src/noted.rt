@@ -8,18 +8,19 @@ ghost use Rattle.sift_clock.specs.Distance.{IsWithin};
 ghost use Rattle.sift_skew.specs.Limits.{offset_limit};
 ghost use Rattle.sift_mission.specs.Data.{FlownMission};
 ghost use Rattle.sift_mission.specs.Fits.{Fits};
+ghost use Rattle.sift_mission.specs.Parts.{flown_of};
 ghost use Rattle.sift_memory.specs.Memory.{place_at, polled_at, note as note_of};
 ghost use Rattle.sift_memory.specs.Conditions.{IsShaped, IsUnitOf, IsOutputOf, IsSensedIn, IsSlotOfFrame, MayNote};
 ghost use Rattle.sift_memory.specs.Memories.{memory_of};
 ghost use Rattle.sift_base.specs.declared.slot.Slot.TheVariants.{Clock, RelaySense, Out, RelayReport};
 
-use crate::duty::Duty;
 use crate::memory::Memory;
 use crate::readings::{far_clocks, next_offset};
 use arrayvec::ArrayVec;
 use sift_agree::{agree, relay_catches};
 use sift_base::{Slot, UnitId, UnitSet, Word};
 use sift_config::Config;
+use sift_mission::Mission;
 use sift_vote::{differing, majority};
 
 /// A poll of an output word, as a unit takes it.
@@ -37,9 +38,9 @@ impl Memory {
     /// Notes what was heard of a slot, by unit, once all of it was heard. The offset of the unit's clock,
     /// `clk`, is in ticks.
     #[inline(never)]
-    pub fn note<M: Duty>(
+    pub fn note(
         &mut self,
-        mission: &M,
+        mission: &Mission,
         config: &Config,
         unit: UnitId,
         frame: u32,
@@ -47,10 +48,10 @@ impl Memory {
         slot: usize,
         places: &[Option<Word>; 8],
     )
-        requires slot { IsSlotOfFrame (M.mission mission.now) config.now frame slot }
+        requires slot { IsSlotOfFrame (flown_of mission.now) config.now frame slot }
         requires near { IsWithin offset_limit clk.now (pos 0) }
-        requires may { MayNote (M.mission mission.now) config.now unit (memory_of self.old) self.old.words.before }
-        ensures noted { memory_of self.new ≡ note_of (M.mission mission.now) config.now unit frame clk.now self.old.words.before ((M.mission mission.now).kind slot) places.now (memory_of self.old) }
+        requires may { MayNote (flown_of mission.now) config.now unit (memory_of self.old) self.old.words.before }
+        ensures noted { memory_of self.new ≡ note_of (flown_of mission.now) config.now unit frame clk.now self.old.words.before ((flown_of mission.now).kind slot) places.now (memory_of self.old) }
         ensures before { self.new.words.before ≡ self.old.words.before }
     {
         match mission.kind(slot) {
@@ -67,18 +68,18 @@ impl Memory {
     }
 
     /// Notes whose clock is too far away, and the next offset.
-    fn note_clocks<M: Duty>(
+    fn note_clocks(
         &mut self,
-        mission: &M,
+        mission: &Mission,
         config: &Config,
         unit: UnitId,
         clk: &i64,
         places: &[Option<Word>; 8],
     )
-        requires fits { Fits (M.mission mission.now) }
-        requires unit { IsUnitOf (M.mission mission.now) config.now unit }
+        requires fits { Fits (flown_of mission.now) }
+        requires unit { IsUnitOf (flown_of mission.now) config.now unit }
         requires near { IsWithin offset_limit clk.now (pos 0) }
-        ensures noted { (f : ℕ) (last : List ℕ) → memory_of self.new ≡ note_of (M.mission mission.now) config.now unit f clk.now last Clock places.now (memory_of self.old) }
+        ensures noted { (f : ℕ) (last : List ℕ) → memory_of self.new ≡ note_of (flown_of mission.now) config.now unit f clk.now last Clock places.now (memory_of self.old) }
         ensures before { self.new.words.before ≡ self.old.words.before }
     {
         self.clock = far_clocks(mission, config, unit, clk, places);
@@ -86,19 +87,19 @@ impl Memory {
     }
 
     /// Notes a sensor's word, and who relayed another.
-    fn note_relays<M: Duty>(
+    fn note_relays(
         &mut self,
-        mission: &M,
+        mission: &Mission,
         config: &Config,
         unit: UnitId,
         frame: u32,
         sensor: u8,
         places: &[Option<Word>; 8],
     )
-        requires fits { Fits (M.mission mission.now) }
-        requires sensed { IsSensedIn (M.mission mission.now) sensor frame }
-        requires shape { IsShaped (M.mission mission.now) config.now unit (memory_of self.old) }
-        ensures noted { (clk : ℤ) (last : List ℕ) → memory_of self.new ≡ note_of (M.mission mission.now) config.now unit frame clk last (RelaySense sensor) places.now (memory_of self.old) }
+        requires fits { Fits (flown_of mission.now) }
+        requires sensed { IsSensedIn (flown_of mission.now) sensor frame }
+        requires shape { IsShaped (flown_of mission.now) config.now unit (memory_of self.old) }
+        ensures noted { (clk : ℤ) (last : List ℕ) → memory_of self.new ≡ note_of (flown_of mission.now) config.now unit frame clk last (RelaySense sensor) places.now (memory_of self.old) }
         ensures before { self.new.words.before ≡ self.old.words.before }
     {
         let reader = config.reader_of(sensor);
@@ -123,18 +124,18 @@ impl Memory {
     }
 
     /// Notes the voted word of a number, and who put out another.
-    fn note_poll<M: Duty>(
+    fn note_poll(
         &mut self,
-        mission: &M,
+        mission: &Mission,
         config: &Config,
         unit: UnitId,
         word: u8,
         places: &[Option<Word>; 8],
     )
-        requires fits { Fits (M.mission mission.now) }
-        requires word { IsOutputOf (M.mission mission.now) config.now word }
-        requires may { MayNote (M.mission mission.now) config.now unit (memory_of self.old) self.old.words.before }
-        ensures noted { (f : ℕ) (clk : ℤ) → memory_of self.new ≡ note_of (M.mission mission.now) config.now unit f clk self.old.words.before (Out word) places.now (memory_of self.old) }
+        requires fits { Fits (flown_of mission.now) }
+        requires word { IsOutputOf (flown_of mission.now) config.now word }
+        requires may { MayNote (flown_of mission.now) config.now unit (memory_of self.old) self.old.words.before }
+        ensures noted { (f : ℕ) (clk : ℤ) → memory_of self.new ≡ note_of (flown_of mission.now) config.now unit f clk self.old.words.before (Out word) places.now (memory_of self.old) }
         ensures before { self.new.words.before ≡ self.old.words.before }
     {
         let executors = members_in(config, mission.executors(config, word));

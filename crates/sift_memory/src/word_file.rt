@@ -1,11 +1,12 @@
 //! The words that a unit keeps in a frame.
 
-ghost use Rattle.std.specs.Prelude.{◌≡◌, ◌<◌, ◌≤◌, ◌+◌, length, slice_index, IfOk};
+ghost use Rattle.std.specs.Prelude.{◌≡◌, ◌<◌, ◌≤◌, ◌+◌, ◌++◌, drop, length, slice_index, take, IfOk};
 ghost use Rattle.sift_code.specs.Ends.{Fits, RunsTo};
 ghost use Rattle.sift_code.specs.Machine.{inputs};
+ghost use Rattle.sift_pool.specs.Region.{IsLive, left_in, words_at};
+ghost use Rattle.sift_memory.specs.Carving.{Adds, Rewords};
 ghost use Rattle.sift_memory.specs.FrameWords.{first_words, with_agreed, with_voted, with_made, next_words, without_before};
 
-use crate::spans::{carve, load, store};
 use arrayvec::ArrayVec;
 use sift_base::{NoMemory, Word};
 use sift_code::{Checked, WORK_WORDS, run};
@@ -198,5 +199,51 @@ impl WordFile {
     {
         self.follows = false;
         self.inputs.before = ArrayVec::new();
+    }
+}
+
+/// Carves a span, for which the pool has room.
+fn carve(pool: &mut Pool, len: usize) -> Span
+    requires room { length pool.old.spans < pool.old.room }
+    requires words { len ≤ left_in pool.old }
+    ensures { Adds pool.old pool.new len result }
+{
+    match pool.carve(len) {
+        Ok(span) => span,
+        Err(_) => unreachable!(),
+    }
+}
+
+/// The words of a span, of which there are so many.
+fn load<const N: usize>(pool: &Pool, span: &Span, count: usize) -> ArrayVec<Word, N>
+    requires live { IsLive pool.now span.now }
+    requires count { count ≡ span.now.len }
+    requires few { count ≤ N }
+    ensures { result.items ≡ words_at pool.now span.now.number }
+{
+    let mut words = ArrayVec::new();
+    for i in 0..count {
+        words.push(Word::of(pool.get(span, i)));
+    }
+    words
+}
+
+/// Stores words in a span, from a place on.
+fn store(pool: &mut Pool, span: &Span, at: usize, words: &[Word])
+    requires live { IsLive pool.old span.now }
+    requires inside { at + length words.now ≤ span.now.len }
+    ensures { Rewords pool.old pool.new span.now.number
+        (take at (words_at pool.old span.now.number) ++ (words.now ++ drop (at + length words.now) (words_at pool.old span.now.number))) }
+{
+    write(pool.words_mut(span), at, words);
+}
+
+/// Writes words into a list from a place on.
+fn write(list: &mut [u16], at: usize, words: &[Word])
+    requires { at + length words.now ≤ length list.old }
+    ensures { list.new ≡ take at list.old ++ (words.now ++ drop (at + length words.now) list.old) }
+{
+    for i in 0..words.len() {
+        list[at + i] = words[i].get();
     }
 }

@@ -1,3 +1,4 @@
+pub mod Due
 pub mod FitSlots
 pub mod FitTables
 pub mod FitTasks

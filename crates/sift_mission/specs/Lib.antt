@@ -7,5 +7,6 @@ pub mod Parts
 pub mod PartsFit
 pub mod Premises
 pub mod Slots
+pub mod Stops
 pub mod Timetable
 pub mod laws

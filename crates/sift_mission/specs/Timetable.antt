@@ -6,7 +6,7 @@ use Rattle.sift_table.specs.Timing.{due_in, heard_in}
 use Rattle.sift_mission.specs.Data.{MissionData, shapes_in}
 use Rattle.sift_mission.specs.Fits.{slot_limit}
 use Rattle.sift_mission.specs.PartsFit.{table_at}
-use Rattle.sift_mission.specs.declared.agenda.Agenda.{Agenda}
+use Rattle.sift_mission.specs.declared.timetable.Agenda.{Agenda}
 use Rattle.sift_mission.specs.declared.timetable.Timetable.{Timetable}
 
 -- of the first numbers, from one on, the first that has a time, and the count of them where none has

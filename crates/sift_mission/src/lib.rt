@@ -1,14 +1,11 @@
 //! Missions: what a loader makes of a document, and what units, tasks, slots, faults and clocks it gives a flight.
 #![tactic(auto)]
 
-mod agenda;
-mod callers;
 mod clocks;
 mod crews;
 mod faults;
 mod laws;
 mod mission;
-mod next;
 mod parts;
 mod roles;
 mod schedule;
@@ -21,3 +18,4 @@ pub use laws::{
 };
 pub use mission::Mission;
 pub use parts::MissionParts;
+pub use schedule::Part;

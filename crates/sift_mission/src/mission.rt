@@ -8,9 +8,8 @@ ghost use Rattle.sift_mission.specs.ByWord.{by_word};
 ghost use Rattle.sift_mission.specs.Crews.{AreCrewsOf};
 ghost use Rattle.sift_mission.specs.Parts.{AreCompiled, data_of, flown_of};
 ghost use Rattle.sift_mission.specs.Data.{IsConfigOf};
-ghost use Rattle.sift_mission.specs.Flown.{table_for, runs_in};
+ghost use Rattle.sift_mission.specs.Flown.{runs_in};
 ghost use Rattle.sift_base.specs.Units.{holds};
-ghost use Rattle.sift_mission.specs.Timetable.{IsTimetableOf};
 ghost use Rattle.sift_mission.specs.PartsFit.{PartsFit};
 
 use crate::crews::{Crews, all_crews};
@@ -31,7 +30,7 @@ pub struct Mission {
     /// The task of each word.
     tasks: ArrayVec<u8, 64>,
     /// By table, when slots are heard and said and tasks are run.
-    times: [Timetable; 5],
+    pub(crate) times: [Timetable; 5],
     /// By the byte of a configuration's units, who runs which task, who says and hears which slot, and by which table.
     crews: [Crews; 256],
 }
@@ -93,14 +92,6 @@ impl Mission {
         ensures { result ≡ (flown_of self.now).slots }
     {
         self.slots
-    }
-
-    /// When slots are heard and said and tasks are run under a configuration.
-    pub(crate) fn timetable(&self, config: &Config) -> &Timetable
-        requires { IsConfigOf (flown_of self.now) config.now }
-        ensures { IsTimetableOf (data_of self.now) (table_for (data_of self.now) config.now) result.now }
-    {
-        &self.times[self.crews_for(config).table]
     }
 
     /// The units of a configuration that run a task.

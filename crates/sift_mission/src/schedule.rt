@@ -1,15 +1,41 @@
-//! When each slot of a mission is said and heard under a configuration, and who runs what.
+//! When each slot of a mission is said and heard under a configuration, who runs what, and what comes next.
 
-ghost use Rattle.std.specs.Prelude.{◌≡◌, ◌-◌, ◌<◌, ◌≤◌, length};
+ghost use Rattle.std.specs.Prelude.{◌≡◌, ◌≢◌, ℕ, ◌+◌, ◌-◌, ◌<◌, ◌≤◌, length, true};
 ghost use Rattle.sift_base.specs.Layout.{IsLayout, slot_count};
+ghost use Rattle.sift_base.specs.Units.{has, holds};
 ghost use Rattle.sift_mission.specs.Data.{IsConfigOf};
+ghost use Rattle.sift_mission.specs.Fits.{Fits};
 ghost use Rattle.sift_mission.specs.Parts.{data_of, flown_of};
 ghost use Rattle.sift_base.specs.Layout.{slot_kind};
 ghost use Rattle.sift_mission.specs.Flown.{runs_in};
+ghost use Rattle.sift_mission.specs.Stops.{part_of, spot, IsDueIn, IsNothingBetween};
 
 use crate::mission::Mission;
-use sift_base::{Layout, Slot, UnitId};
+use sift_base::{Layout, Slot, UnitId, UnitSet};
 use sift_config::Config;
+
+/// What a unit does in a part of a subframe.
+#[derive(Clone, Copy)]
+pub enum Part {
+    /// It hears what was said to it.
+    Hearing,
+    /// It runs its tasks.
+    Running,
+    /// It says its words.
+    Saying,
+}
+
+impl Part {
+    /// The part after this one, up to the last.
+    pub fn next(self) -> Part
+        ensures { part_of self < 2 → part_of result ≡ part_of self + 1 }
+    {
+        match self {
+            Part::Hearing => Part::Running,
+            _ => Part::Saying,
+        }
+    }
+}
 
 impl Mission {
     /// How many frames are flown, 1 to 1,000.
@@ -94,7 +120,9 @@ impl Mission {
     pub fn runs(&self, config: &Config, t: usize, u: UnitId) -> bool
         requires config { IsConfigOf (flown_of self.now) config.now }
         requires task { t < (flown_of self.now).tasks }
-        ensures { result ≡ runs_in (data_of self.now) config.now t u }
+        ensures position { result ≡ runs_in (data_of self.now) config.now t u }
+        ensures member { result ≡ true → has config.now u ≡ true }
+        ensures words { (w : ℕ) → w < (flown_of self.now).words → (flown_of self.now).task w ≡ t → (flown_of self.now).executes config.now w u ≡ result }
     {
         self.crew(config, t).has(u)
     }
@@ -106,6 +134,88 @@ impl Mission {
         ensures { result ≡ (flown_of self.now).executes config.now w u }
     {
         self.runs(config, self.task_of(w), u)
+    }
+
+    /// The units that put out a word: those that run its task.
+    pub fn executors(&self, config: &Config, w: u8) -> UnitSet
+        requires config { IsConfigOf (flown_of self.now) config.now }
+        requires word { w < (flown_of self.now).words }
+        ensures { (u : ℕ) → holds result u ≡ (flown_of self.now).executes config.now w u }
+    {
+        self.crew(config, self.task_of(w))
+    }
+
+    /// The next slot, from one on, of which there is something to do in this part of a subframe, and the count of the slots
+    /// where there is none.
+    pub fn next_due(&self, config: &Config, subframe: u32, part: Part, from: usize) -> usize
+        requires fits { Fits (flown_of self.now) }
+        requires config { IsConfigOf (flown_of self.now) config.now }
+        requires from { from ≤ (flown_of self.now).slots }
+        ensures after { from ≤ result }
+        ensures within { result ≤ (flown_of self.now).slots }
+        ensures found { result < (flown_of self.now).slots → IsDueIn (flown_of self.now) config.now subframe part result }
+        ensures idle { IsNothingBetween (flown_of self.now) config.now (spot subframe (part_of part) from 0) (spot subframe (part_of part) result 0) }
+    {
+        match part {
+            Part::Hearing => self.next_heard(config, subframe, from),
+            Part::Running => self.next_task(config, subframe, from),
+            Part::Saying => self.next_said(config, subframe, from),
+        }
+    }
+
+    /// The next slot, from one on, that is heard in a subframe, and the count of the slots where there is none.
+    pub fn next_heard(&self, config: &Config, subframe: u32, from: usize) -> usize
+        requires config { IsConfigOf (flown_of self.now) config.now }
+        requires from { from ≤ (flown_of self.now).slots }
+        ensures after { from ≤ result }
+        ensures within { result ≤ (flown_of self.now).slots }
+        ensures passed { (i : ℕ) → from ≤ i → i < result → (flown_of self.now).heard_in config.now ((flown_of self.now).kind i) ≢ subframe }
+        ensures found { result < (flown_of self.now).slots → (flown_of self.now).heard_in config.now ((flown_of self.now).kind result) ≡ subframe }
+    {
+        self.timetable(config).heard.next(subframe, from)
+    }
+
+    /// The next slot, from one on, that is said in a subframe, and the count of the slots where there is none.
+    pub fn next_said(&self, config: &Config, subframe: u32, from: usize) -> usize
+        requires config { IsConfigOf (flown_of self.now) config.now }
+        requires from { from ≤ (flown_of self.now).slots }
+        ensures after { from ≤ result }
+        ensures within { result ≤ (flown_of self.now).slots }
+        ensures passed { (i : ℕ) → from ≤ i → i < result → (flown_of self.now).due config.now ((flown_of self.now).kind i) ≢ subframe }
+        ensures found { result < (flown_of self.now).slots → (flown_of self.now).due config.now ((flown_of self.now).kind result) ≡ subframe }
+    {
+        self.timetable(config).said.next(subframe, from)
+    }
+
+    /// The next task, from one on, that is run in a subframe, and the count of the tasks where there is none.
+    pub fn next_run(&self, config: &Config, subframe: u32, from: usize) -> usize
+        requires config { IsConfigOf (flown_of self.now) config.now }
+        requires from { from ≤ (flown_of self.now).tasks }
+        ensures after { from ≤ result }
+        ensures within { result ≤ (flown_of self.now).tasks }
+        ensures passed { (t : ℕ) → from ≤ t → t < result → (flown_of self.now).run_in config.now t ≢ subframe }
+        ensures found { result < (flown_of self.now).tasks → (flown_of self.now).run_in config.now result ≡ subframe }
+    {
+        self.timetable(config).run.next(subframe, from)
+    }
+
+    /// The next task, from a number on, that is run in a subframe, and the count of the slots where there is none.
+    pub fn next_task(&self, config: &Config, subframe: u32, from: usize) -> usize
+        requires config { IsConfigOf (flown_of self.now) config.now }
+        requires from { from ≤ (flown_of self.now).slots }
+        ensures after { from ≤ result }
+        ensures within { result ≤ (flown_of self.now).slots }
+        ensures passed { (t : ℕ) → t < (flown_of self.now).tasks → from ≤ t → t < result → (flown_of self.now).run_in config.now t ≢ subframe }
+        ensures found { result < (flown_of self.now).slots → (result < (flown_of self.now).tasks) × ((flown_of self.now).run_in config.now result ≡ subframe) }
+    {
+        let tasks = self.tasks();
+        if from < tasks {
+            let next = self.next_run(config, subframe, from);
+            if next < tasks {
+                return next;
+            }
+        }
+        self.slots()
     }
 }
 

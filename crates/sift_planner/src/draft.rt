@@ -9,17 +9,8 @@ ghost use Rattle.sift_planner.specs.Earliest.{IsInTime, IsLeastOpen, IsOpen, fre
 ghost use Rattle.sift_planner.specs.Plans.{IsPlanned, IsWithinLimits, executors_of, wanted};
 
 use sift_base::NoMemory;
-use sift_table::Table;
+use sift_table::{AGREED_IN, HEARING_DELAY, REPORT_LEAD, Table};
 use std::alloc::{AllocError, Global};
-
-/// The subframe in which the sensor words are agreed, before which no task runs.
-const FIRST_RUN: u8 = 4;
-
-/// How many subframes before the frame's end the reports are said, after which no task is polled.
-const REPORT_LEAD: u8 = 6;
-
-/// How many subframes pass from a task's run to its poll.
-const POLL_DELAY: u8 = 2;
 
 /// A table whose first rows stand, and which positions they use.
 #[derive(Drop)]
@@ -65,8 +56,8 @@ impl Draft {
         ensures shut { IfNone result ((subframe : ℕ) →
             ¬ IsOpen (drafted self.now) self.now.executors needs.now (rows_in self.now) subframe) }
     {
-        let end = self.table.period - REPORT_LEAD - POLL_DELAY + 1;
-        for subframe in FIRST_RUN..end {
+        let end = self.table.period - REPORT_LEAD - HEARING_DELAY + 1;
+        for subframe in AGREED_IN..end {
             if self.is_open(needs, subframe) {
                 return Some(subframe);
             }
@@ -121,7 +112,7 @@ impl Draft {
     {
         let positions = self.next_positions(alloc, run)?;
         self.table.run.push(run)?;
-        self.table.poll.push(run + POLL_DELAY)?;
+        self.table.poll.push(run + HEARING_DELAY)?;
         self.table.at.push(positions)?;
         self.used[usize::from(run)] += self.executors;
         Ok(())

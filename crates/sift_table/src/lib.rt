@@ -14,4 +14,4 @@ pub use laws::{
     shed_tasks_are_left_out, slots_are_heard_in_time, tables_are_answered,
     tasks_have_three_executors, tasks_run_after_their_needs, words_have_their_task,
 };
-pub use table::{Table, plain_table};
+pub use table::{AGREED_IN, END_LEAD, HEARING_DELAY, RELAY_LEAD, REPORT_LEAD, Table, plain_table};

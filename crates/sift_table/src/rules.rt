@@ -6,17 +6,8 @@ ghost use Rattle.sift_table.specs.Schedule.{schedule_of};
 ghost use Rattle.sift_table.specs.Rules.{HasAnEntryEach, RunsAfterAgreement, IsPolledByReports, IsPolledAfterRun, HasEnoughPositions};
 ghost use Rattle.sift_table.specs.Rules.{HasPositionsInside, HasAscendingPositions, ReadsPolledWords, SharesNoPosition, AreApart, IsLeftOut, ShedsTasks};
 
-use crate::table::Table;
+use crate::table::{AGREED_IN, HEARING_DELAY, REPORT_LEAD, Table};
 use sift_base::{Shapes, is_ascending};
-
-/// The subframe in which the sensor words are agreed, before which no task runs.
-const FIRST_RUN: u8 = 4;
-
-/// How many subframes before the frame's end the reports are said, after which no task is polled.
-const REPORT_LEAD: u8 = 6;
-
-/// How many subframes pass at least from a task's run to its poll.
-const POLL_DELAY: u8 = 2;
 
 /// How many units run a task at least.
 const EXECUTORS: usize = 3;
@@ -48,7 +39,7 @@ pub fn runs_after_agreement(table: &Table, row: usize) -> bool
     requires { row < length (schedule_of table.now).run }
     ensures { IsTrue result ↔ RunsAfterAgreement (schedule_of table.now) row }
 {
-    table.run[row] >= FIRST_RUN
+    table.run[row] >= AGREED_IN
 }
 
 /// Whether a row's task is polled when the reports are said, or earlier. In a frame that is too short for reports none is.
@@ -65,7 +56,7 @@ pub fn is_polled_after_run(table: &Table, row: usize) -> bool
     requires poll { row < length (schedule_of table.now).poll }
     ensures { IsTrue result ↔ IsPolledAfterRun (schedule_of table.now) row }
 {
-    table.poll[row] >= POLL_DELAY && table.poll[row] - POLL_DELAY >= table.run[row]
+    table.poll[row] >= HEARING_DELAY && table.poll[row] - HEARING_DELAY >= table.run[row]
 }
 
 /// Whether enough units run a row's task.

@@ -10,6 +10,21 @@ ghost use Rattle.sift_table.specs.Schedule.{schedule_of, plain_of, positions_of}
 use sift_base::NoMemory;
 use std::alloc::{AllocError, Global};
 
+/// The subframe in which the sensor words of a frame are agreed, before which no task runs.
+pub const AGREED_IN: u8 = 4;
+
+/// How many subframes pass at least from where a word is said to where it is heard, and so from a task's run to its poll.
+pub const HEARING_DELAY: u8 = 2;
+
+/// How many subframes before the frame's end the reports are said, after which no task is polled.
+pub const REPORT_LEAD: u8 = 6;
+
+/// How many subframes before the frame's end the reports are heard, and said again by those who heard them.
+pub const RELAY_LEAD: u8 = 4;
+
+/// How many subframes before the frame's end the last words of the frame are heard.
+pub const END_LEAD: u8 = 2;
+
 /// A schedule table for the configurations of one size. Entry t of `run`, `poll` and `at` belongs to task t.
 #[derive(Drop)]
 pub struct Table {
@@ -58,8 +73,8 @@ pub fn plain_table(alloc: Global, size: u8, period: u8, tasks: u8) -> Result<Tab
     Ok(Table {
         size,
         period,
-        run: every_second(alloc, 4, tasks)?,
-        poll: every_second(alloc, 6, tasks)?,
+        run: every_second(alloc, AGREED_IN, tasks)?,
+        poll: every_second(alloc, AGREED_IN + HEARING_DELAY, tasks)?,
         at,
         shed: Vec::new(alloc),
     })

@@ -9,7 +9,7 @@ use Rattle.sift_mission.specs.Slots.{is_slot, calls, stamp_of, heard_at}
 use Rattle.sift_mission.specs.Fits.{Fits}
 use Rattle.sift_mission.specs.laws.Calls.{call_of}
 use Rattle.sift_conduct.specs.Acts.{stamp_and_moment}
-use Rattle.sift_memory.specs.Stops.{hear_spot, say_spot}
+use Rattle.sift_mission.specs.Stops.{hear_spot, say_spot}
 use Rattle.sift_unit.specs.Desk.{is_past}
 use Rattle.sift_unit.specs.Going.{Accounts, Words, word_in_frame, said_by, heard_by, ActsTo}
 use Rattle.sift_unit.proofs.Tests.{choice_same, choice_none}

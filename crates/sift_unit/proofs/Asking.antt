@@ -3,7 +3,7 @@ use Rattle.std.proofs.Common.{◌≡◌, inl, inr, ◌<◌, true, Some, sym, ap,
 use Rattle.std.proofs.lemmas.Bool.{cases_lt}
 use mathlib.Core.Logic.{dite}
 use native.Mathlib.Decide.{ℕ_discrete}
-use Rattle.sift_base.specs.Units.{has}
+use Rattle.sift_base.specs.Units.{has, unit_limit}
 use Rattle.sift_buffer.specs.Conduct.{saying}
 use Rattle.sift_buffer.specs.Conduct.{Conduct as Acts}
 use Rattle.sift_buffer.specs.Ranges.{Ranges}
@@ -61,6 +61,14 @@ module _ (m : FlownMission) (fit : Fits m) (r : Ranges) (of : IsPortOf m r) (b :
               | inr lf ↦ let lf' : b.frame < f' = omega arith in let up = frame_low m.period b.frame f' lf' in omega arith
             ]);
       }
+
+  -- the unit that it hears is one of the mission's
+  pub heard_low : AtHearing m fit b → b.other < unit_limit
+  heard_low at = fit.counted.units b.other (g.range.config.inside b.other (call_of m b.cfg (m.kind b.slot) b.other b.unit at.call).from)
+
+  -- and so is that to which it says a word
+  pub said_low : AtSaying m fit b → b.other < unit_limit
+  said_low at = fit.counted.units b.other (g.range.config.inside b.other (call_of m b.cfg (m.kind b.slot) b.unit b.other at.call).to)
 
   -- the slot that it hears is due within the frame
   pub heard_inside : AtHearing m fit b → m.due b.cfg (m.kind b.slot) < m.period

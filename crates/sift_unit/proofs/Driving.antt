@@ -1,7 +1,7 @@
 -- A board on its port, call by call.
-use Rattle.std.proofs.Common.{◌≡◌, inl, ℕ, ◌+◌, ◌*◌, ◌<◌, true, Option, Some, refl, sym, ap, ◌∙◌, subst, arith}
+use Rattle.std.proofs.Common.{◌≡◌, inl, inr, ℕ, ◌+◌, ◌*◌, ◌<◌, true, false, Option, Some, refl, sym, ap, ◌∙◌, subst, arith}
 use Rattle.std.specs.Prelude.{slice_set}
-use Rattle.sift_base.specs.Units.{has}
+use Rattle.sift_base.specs.Units.{has, unit_limit}
 use Rattle.sift_buffer.specs.Conduct.{Conduct as Acts}
 use Rattle.sift_buffer.specs.Conditions.{MaySay, MayHear, MayEnter}
 use Rattle.sift_buffer.specs.Views.{View, view_with_said, view_with_heard, view_with_entered, view_with_turned, KeepsOwn, EntersAfterRound, Turns, at_once, after_round}
@@ -14,14 +14,14 @@ use Rattle.sift_unit.specs.Desk.{Desk, is_hearing, is_saying}
 use Rattle.sift_unit.specs.Going.{Going}
 use Rattle.sift_unit.specs.Passing.{Passes}
 use Rattle.sift_unit.specs.Stepping.{HasMoved, said, heard}
-use Rattle.sift_unit.specs.Keeping.{Turned, KeepsAs, IsEarly}
+use Rattle.sift_unit.specs.Keeping.{Flying, Turned, KeepsAs, IsEarly}
 use Rattle.sift_unit.specs.Conditions.{IsInFlight, MayWalk}
 use Rattle.sift_unit.specs.Boards.{desk_of, IsPortOf, Drives, IsSameBoard, IsMarked, GoesOn, TurnsNext, BeginsNext}
 use Rattle.sift_unit.specs.declared.board.Board.{Board as TheBoard}
 use Rattle.sift_unit.proofs.Hearing.{hearing_is, hear_going}
 use Rattle.sift_unit.proofs.Saying.{saying_is, say_going}
-use Rattle.sift_unit.proofs.Asking.{may_hear, may_say, heard_inside, said_inside, sayer_there}
-use Rattle.sift_unit.proofs.Starting.{turned_on}
+use Rattle.sift_unit.proofs.Asking.{may_hear, may_say, heard_low, said_low, heard_inside, said_inside, sayer_there}
+use Rattle.sift_unit.proofs.Starting.{turned_on, turn_first_law}
 use Rattle.sift_unit.proofs.Marks.{flying_as, FliesOn, early_flies, is_early, early_same, early_on, early_before, below_last}
 
 -- what a unit has seen is nothing that its board knows of
@@ -136,6 +136,21 @@ module _ (m : FlownMission) (b : TheBoard) (v : View) (d : Drives m b v) (early 
 pub early_at : (m : FlownMission) (b : TheBoard) (v : View) → Drives m b v → (b.storm ≡ Some b.frame → ⊥) → IsEarly m (desk_of b)
 early_at m b v d other = is_early m b.turned (desk_of b) v.conduct d.keeps (λ storm. other (d.storm ∙ storm))
 
+-- one that stands in that frame, and has not turned, stood before anything else, so it drives on once it has turned
+pub once_drives : (m : FlownMission) (b b' : TheBoard) (v v' : View) → Drives m b v → b.turned ≡ false → b.storm ≡ Some b.frame → IsMarked b b' → Turns v v' →
+    Drives m b' v'
+once_drives m b b' v v' d mark storm marked turns =
+    let k : Flying m (desk_of b) v.conduct = subst (λ t. KeepsAs m t (desk_of b) v.conduct) mark d.keeps in
+    let mine : m.storm b.unit ≡ Some b.frame = sym d.storm ∙ storm in
+    let t = turns_from v v' turns in
+    elim (k.before b.frame mine) [
+      | inl low ↦ absurd (omega arith)
+      | inr z ↦ drives_on m b b' v v' d (ap (λ (x : Desk). x.unit) marked.desk) marked.frames marked.storm
+          (ap (λ (x : View). x.unit) t.after ∙ t.own.unit) (ap (λ (x : View). x.ranges) t.after ∙ t.own.ranges)
+          (marked_as m b b' v'.conduct marked (subst (λ (x : View). Turned m (desk_of b) x.conduct) (sym t.after)
+          (turn_first_law m (desk_of b) t.before.conduct (looks_going m (desk_of b) v t.before t.own k.going) (mine ∙ ap Some z.0) z.1 z.2)))
+    ]
+
 -- so it may walk
 pub walks_here : (m : FlownMission) (b : TheBoard) (v : View) → Drives m b v → (b.storm ≡ Some b.frame → ⊥) → MayWalk m (desk_of b)
 walks_here m b v d other = record { fits = d.fits; range = (flies_here m b v d (early_at m b v d other)).going.range }
@@ -177,12 +192,19 @@ module _ (m : FlownMission) (b : TheBoard) (v : View) (flight : IsInFlight m b v
   pub hear_inside : is_hearing m (desk_of b) ≡ true → m.due b.cfg (m.kind b.slot) < m.period
   hear_inside e = heard_inside m fit v.ranges flight.drives.ranges (desk_of b) v.conduct going_here flight.frame (hearing_is m fit (desk_of b) e)
 
+  -- from one of the mission's units
+  pub hear_low : is_hearing m (desk_of b) ≡ true → b.other < unit_limit
+  hear_low e = heard_low m fit v.ranges flight.drives.ranges (desk_of b) v.conduct going_here flight.frame (hearing_is m fit (desk_of b) e)
+
   -- and where it says
   pub say_slot : is_saying m (desk_of b) ≡ true → IsSlotOfFrame m b.cfg b.frame b.slot
   say_slot e = slot_here (saying_is m fit (desk_of b) e).slot
 
   pub say_inside : is_saying m (desk_of b) ≡ true → m.due b.cfg (m.kind b.slot) < m.period
   say_inside e = said_inside m fit v.ranges flight.drives.ranges (desk_of b) v.conduct going_here flight.frame (saying_is m fit (desk_of b) e)
+
+  pub say_low : is_saying m (desk_of b) ≡ true → b.other < unit_limit
+  say_low e = said_low m fit v.ranges flight.drives.ranges (desk_of b) v.conduct going_here flight.frame (saying_is m fit (desk_of b) e)
 
   -- its unit is in its configuration there, and its memory in shape
   pub say_member : is_saying m (desk_of b) ≡ true → has b.cfg b.unit ≡ true

@@ -14,7 +14,7 @@ use Rattle.sift_mission.specs.laws.Calls.{call_of}
 use Rattle.sift_conduct.specs.Frames.{UnitFlight, FrameConduct, Flies}
 use Rattle.sift_conduct.specs.Conduct.{Account, Places}
 use Rattle.sift_conduct.specs.Acts.{word_in_saying, word_in_hearing, said_places, heard_places, unit_flight, StampsAreOfTheirFrames, Turns, stamp_and_moment, ActsAre, IsUnderway, BoardKeeps}
-use Rattle.sift_memory.specs.Stops.{hear_spot, say_spot}
+use Rattle.sift_mission.specs.Stops.{hear_spot, say_spot}
 use Rattle.sift_unit.specs.Desk.{Desk, cursor, is_past, accounts_of}
 use Rattle.sift_unit.specs.Going.{word_in_frame, Meets, Going}
 use Rattle.sift_unit.proofs.Tests.{some_none, choice_past, choice_none}

@@ -11,7 +11,7 @@ use Rattle.sift_mission.specs.Data.{FlownMission}
 use Rattle.sift_mission.specs.Slots.{calls, stamp_of}
 use Rattle.sift_mission.specs.Fits.{Fits}
 use Rattle.sift_conduct.specs.Acts.{stamp_and_moment, heard_places}
-use Rattle.sift_memory.specs.Stops.{spot, hear_spot}
+use Rattle.sift_mission.specs.Stops.{spot, hear_spot}
 use Rattle.sift_unit.specs.Desk.{Desk, cursor, is_hearing, accounts_of, moved}
 use Rattle.sift_unit.specs.Going.{Accounts, Words, ActsTo, Going}
 use Rattle.sift_unit.proofs.Tests.{some_none}

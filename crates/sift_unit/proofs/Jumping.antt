@@ -6,7 +6,7 @@ use Rattle.sift_mission.specs.Data.{FlownMission}
 use Rattle.sift_mission.specs.Fits.{Fits}
 use Rattle.sift_mission.specs.laws.Calls.{call_of}
 use Rattle.sift_mission.specs.laws.Tasks.{few_tasks}
-use Rattle.sift_memory.specs.Stops.{spot, hear_spot, say_spot, IsNothingBetween, hearing, running, saying}
+use Rattle.sift_mission.specs.Stops.{spot, hear_spot, say_spot, IsNothingBetween, hearing, running, saying}
 use Rattle.sift_unit.specs.Desk.{Desk, cursor, heard_mark, run_mark}
 use Rattle.sift_unit.specs.Going.{InRange}
 use Rattle.sift_unit.specs.BoardLaws.{JumpLaw}

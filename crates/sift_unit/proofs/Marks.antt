@@ -1,5 +1,5 @@
 -- Boards that fly or have turned, as their marks tell.
-use Rattle.std.proofs.Common.{◌≡◌, ◌⊎◌, inl, inr, ℕ, ◌+◌, ◌*◌, ◌<◌, ◌≤◌, Bool, true, false, Option, Some, None, nat_eq, eq-eqb, refl, sym, ap, ◌∙◌, subst, arith}
+use Rattle.std.proofs.Common.{◌≡◌, ◌⊎◌, inl, inr, ℕ, ◌+◌, ◌*◌, ◌<◌, ◌≤◌, Bool, true, false, Option, Some, None, nat_eq, eq-eqb, eqb-true, refl, sym, ap, ◌∙◌, subst, arith}
 use Rattle.std.specs.Option.{option_eq}
 use mathlib.Core.Logic.{dite}
 use native.Mathlib.Decide.{ℕ_discrete}
@@ -22,6 +22,11 @@ pub apart_by : (o : Option ℕ) (f : ℕ) → option_eq nat_eq o (Some f) ≡ fa
 apart_by o f other is =
     let h : nat_eq f f ≡ false = subst (λ z. option_eq nat_eq z (Some f) ≡ false) is other in
     true_false (sym (eq-eqb f f refl) ∙ h)
+
+-- where it tells them alike, it is
+pub met_by : (o : Option ℕ) (f : ℕ) → option_eq nat_eq o (Some f) ≡ true → o ≡ Some f
+met_by None f is = absurd (true_false (sym is))
+met_by (Some from) f is = ap Some (eqb-true from f is)
 
 -- ---- by the mark
 

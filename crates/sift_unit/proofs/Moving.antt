@@ -10,7 +10,7 @@ use Rattle.sift_mission.specs.Data.{FlownMission}
 use Rattle.sift_mission.specs.Slots.{is_slot, calls}
 use Rattle.sift_mission.specs.Fits.{Fits}
 use Rattle.sift_mission.specs.laws.Tasks.{few_tasks}
-use Rattle.sift_memory.specs.Stops.{spot, hear_spot, say_spot}
+use Rattle.sift_mission.specs.Stops.{spot, hear_spot, say_spot}
 use Rattle.sift_unit.specs.Desk.{Desk, cursor, heard_mark, run_mark, moved}
 use Rattle.sift_unit.specs.Going.{Accounts, Words, ActsTo, Fate, Meets, InRange, Going, HasHeard}
 use Rattle.sift_unit.proofs.Acting.{acts_on}

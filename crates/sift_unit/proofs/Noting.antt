@@ -12,7 +12,7 @@ use Rattle.sift_mission.specs.Fits.{Fits, is_caught_in}
 use Rattle.sift_mission.specs.laws.Tasks.{few_tasks}
 use Rattle.sift_memory.specs.Memory.{Memory, note}
 use Rattle.sift_memory.specs.Conditions.{IsShaped}
-use Rattle.sift_memory.specs.Stops.{spot}
+use Rattle.sift_mission.specs.Stops.{spot}
 use Rattle.sift_unit.specs.Remembered.{Heard}
 use Rattle.sift_unit.specs.Desk.{Desk, cursor, heard_mark, run_mark}
 use Rattle.sift_unit.specs.Going.{Accounts, Words, ActsTo, Fate, InRange, Going, desk_frame}

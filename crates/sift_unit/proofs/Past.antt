@@ -4,7 +4,7 @@ use Rattle.std.proofs.lemmas.Bool.{cases_Bool}
 use mathlib.Core.Logic.{dite}
 use native.Mathlib.Decide.{ℕ_discrete}
 use Rattle.sift_buffer.specs.Conduct.{put_at}
-use Rattle.sift_memory.specs.Stops.{spot}
+use Rattle.sift_mission.specs.Stops.{spot}
 use Rattle.sift_unit.specs.Desk.{is_past}
 
 -- a place is below both of two marks or neither, where it is below the first if it is below the second

@@ -10,7 +10,7 @@ use Rattle.sift_mission.specs.Data.{FlownMission}
 use Rattle.sift_mission.specs.Slots.{is_slot, calls}
 use Rattle.sift_mission.specs.Fits.{Fits}
 use Rattle.sift_mission.specs.laws.Tasks.{few_tasks}
-use Rattle.sift_memory.specs.Stops.{hear_spot, say_spot}
+use Rattle.sift_mission.specs.Stops.{hear_spot, say_spot}
 use Rattle.sift_unit.specs.Desk.{Desk, cursor, is_hearing, is_saying, moved}
 use Rattle.sift_unit.specs.Going.{Going}
 use Rattle.sift_unit.proofs.Past.{spot_same}

@@ -7,7 +7,7 @@ use Rattle.sift_mission.specs.Slots.{calls}
 use Rattle.sift_conduct.specs.Conduct.{Account}
 use Rattle.sift_memory.specs.Memory.{Memory}
 use Rattle.sift_memory.specs.Tidings.{frame_account}
-use Rattle.sift_memory.specs.Stops.{spot}
+use Rattle.sift_mission.specs.Stops.{spot}
 
 -- a board: its unit; the place at which it stands, by frame, subframe, part, slot and other unit; its configuration, its clock's offset and
 -- the words voted in the frame before; by unit, what it heard in the slot at which it stands; what it remembers; and its accounts of all

@@ -11,7 +11,7 @@ use Rattle.sift_conduct.specs.Frames.{last_of, BeginConduct, IdleConduct}
 use Rattle.sift_conduct.specs.Acts.{stamp_and_moment}
 use Rattle.sift_memory.specs.Memory.{Memory, place_at}
 use Rattle.sift_memory.specs.Conditions.{IsShaped}
-use Rattle.sift_memory.specs.Stops.{hear_spot, say_spot}
+use Rattle.sift_mission.specs.Stops.{hear_spot, say_spot}
 use Rattle.sift_unit.specs.Remembered.{Heard, Ran, Matches, Settled}
 use Rattle.sift_unit.specs.Reach.{IsNearIn, IsNear}
 use Rattle.sift_unit.specs.Desk.{Desk, cursor, heard_mark, run_mark, settled_mark, is_past}

@@ -14,8 +14,7 @@ use crate::board::Board;
 use crate::stepped::Stepped;
 use sift_base::UnitId;
 use sift_buffer::{Entering, Port};
-use sift_memory::{Duty, Part};
-use sift_mission::Mission;
+use sift_mission::{Mission, Part};
 use sift_skew::offsets_change_little;
 
 impl Board {
@@ -27,16 +26,6 @@ impl Board {
         requires { Drives (flown_of mission.now) self.old (T.view port.old) }
         ensures drives { Drives (flown_of mission.now) self.new (T.view port.new) }
         ensures steps { Steps (flown_of mission.now) (desk_of self.old) (T.view port.old) result (desk_of self.new) (T.view port.new) (T.stands port.new) }
-        ensures follows { T.follows port.old [] port.new }
-    {
-        self.step_by(mission, port)
-    }
-
-    /// The same, of all that a mission asks of a board.
-    fn step_by<M: Duty, T: Port>(&mut self, mission: &M, port: &mut T) -> Stepped
-        requires { Drives (M.mission mission.now) self.old (T.view port.old) }
-        ensures drives { Drives (M.mission mission.now) self.new (T.view port.new) }
-        ensures steps { Steps (M.mission mission.now) (desk_of self.old) (T.view port.old) result (desk_of self.new) (T.view port.new) (T.stands port.new) }
         ensures follows { T.follows port.old [] port.new }
     {
         if self.storm == Some(self.frame) {
@@ -61,20 +50,20 @@ impl Board {
     }
 
     /// The stamp of the slot at which the board stands, and in which it says or hears a word.
-    fn stamp<M: Duty>(&self, mission: &M) -> u32
-        requires slot { IsSlotOfFrame (M.mission mission.now) self.now.cfg self.now.frame self.now.slot }
-        requires inside { (M.mission mission.now).due self.now.cfg ((M.mission mission.now).kind self.now.slot) < (M.mission mission.now).period }
-        ensures { result ≡ self.now.frame * (M.mission mission.now).period + (M.mission mission.now).due self.now.cfg ((M.mission mission.now).kind self.now.slot) + 1 }
+    fn stamp(&self, mission: &Mission) -> u32
+        requires slot { IsSlotOfFrame (flown_of mission.now) self.now.cfg self.now.frame self.now.slot }
+        requires inside { (flown_of mission.now).due self.now.cfg ((flown_of mission.now).kind self.now.slot) < (flown_of mission.now).period }
+        ensures { result ≡ self.now.frame * (flown_of mission.now).period + (flown_of mission.now).due self.now.cfg ((flown_of mission.now).kind self.now.slot) + 1 }
     {
         self.frame * mission.period() + mission.due(&self.cfg, self.slot) + 1
     }
 
     /// Hears the word at which the board stands.
-    fn hear<M: Duty, T: Port>(&mut self, mission: &M, port: &mut T)
-        requires flight { IsInFlight (M.mission mission.now) self.old (T.view port.old) }
-        requires here { at_hearing (M.mission mission.now) (desk_of self.old) ≡ true }
-        ensures drives { Drives (M.mission mission.now) self.new (T.view port.new) }
-        ensures moved { HasMoved (M.mission mission.now) (desk_of self.old) (T.view port.old) (desk_of self.new) (T.view port.new) }
+    fn hear<T: Port>(&mut self, mission: &Mission, port: &mut T)
+        requires flight { IsInFlight (flown_of mission.now) self.old (T.view port.old) }
+        requires here { at_hearing (flown_of mission.now) (desk_of self.old) ≡ true }
+        ensures drives { Drives (flown_of mission.now) self.new (T.view port.new) }
+        ensures moved { HasMoved (flown_of mission.now) (desk_of self.old) (T.view port.old) (desk_of self.new) (T.view port.new) }
         ensures follows { T.follows port.old [] port.new }
     {
         let stamp = self.stamp(mission);
@@ -88,11 +77,11 @@ impl Board {
     }
 
     /// Says the word at which the board stands.
-    fn say<M: Duty, T: Port>(&mut self, mission: &M, port: &mut T)
-        requires flight { IsInFlight (M.mission mission.now) self.old (T.view port.old) }
-        requires here { at_saying (M.mission mission.now) (desk_of self.old) ≡ true }
-        ensures drives { Drives (M.mission mission.now) self.new (T.view port.new) }
-        ensures moved { HasMoved (M.mission mission.now) (desk_of self.old) (T.view port.old) (desk_of self.new) (T.view port.new) }
+    fn say<T: Port>(&mut self, mission: &Mission, port: &mut T)
+        requires flight { IsInFlight (flown_of mission.now) self.old (T.view port.old) }
+        requires here { at_saying (flown_of mission.now) (desk_of self.old) ≡ true }
+        ensures drives { Drives (flown_of mission.now) self.new (T.view port.new) }
+        ensures moved { HasMoved (flown_of mission.now) (desk_of self.old) (T.view port.old) (desk_of self.new) (T.view port.new) }
         ensures follows { T.follows port.old [] port.new }
     {
         let stamp = self.stamp(mission);
@@ -109,11 +98,11 @@ impl Board {
 
     /// Tries to enter the next subframe, or to turn in its place.
     #[inline(never)]
-    fn enter<M: Duty, T: Port>(&mut self, mission: &M, port: &mut T) -> Stepped
-        requires flight { IsInFlight (M.mission mission.now) self.old (T.view port.old) }
-        requires end { at_end (M.mission mission.now) (desk_of self.old) ≡ true }
-        ensures drives { Drives (M.mission mission.now) self.new (T.view port.new) }
-        ensures steps { Steps (M.mission mission.now) (desk_of self.old) (T.view port.old) result (desk_of self.new) (T.view port.new) (T.stands port.new) }
+    fn enter<T: Port>(&mut self, mission: &Mission, port: &mut T) -> Stepped
+        requires flight { IsInFlight (flown_of mission.now) self.old (T.view port.old) }
+        requires end { at_end (flown_of mission.now) (desk_of self.old) ≡ true }
+        ensures drives { Drives (flown_of mission.now) self.new (T.view port.new) }
+        ensures steps { Steps (flown_of mission.now) (desk_of self.old) (T.view port.old) result (desk_of self.new) (T.view port.new) (T.stands port.new) }
         ensures follows { T.follows port.old [] port.new }
     {
         if self.turns_next(mission) {
@@ -132,22 +121,22 @@ impl Board {
     }
 
     /// Whether the unit turns in place of entering the next subframe.
-    fn turns_next<M: Duty>(&self, mission: &M) -> bool
-        requires walks { MayWalk (M.mission mission.now) (desk_of self.now) }
+    fn turns_next(&self, mission: &Mission) -> bool
+        requires walks { MayWalk (flown_of mission.now) (desk_of self.now) }
         requires frame { self.now.frame < self.now.frames }
-        ensures turns { result ≡ true → TurnsNext (M.mission mission.now) self.now }
-        ensures enters { result ≡ false → ¬ TurnsNext (M.mission mission.now) self.now }
+        ensures turns { result ≡ true → TurnsNext (flown_of mission.now) self.now }
+        ensures enters { result ≡ false → ¬ TurnsNext (flown_of mission.now) self.now }
     {
         self.subframe + 1 == mission.period() && self.storm == Some(self.frame + 1)
     }
 
     /// Tries to turn stray in place of entering the next frame, and then accounts for the frame that has ended.
-    fn turn<M: Duty, T: Port>(&mut self, mission: &M, port: &mut T) -> Stepped
-        requires drives { Drives (M.mission mission.now) self.old (T.view port.old) }
-        requires end { at_end (M.mission mission.now) (desk_of self.old) ≡ true }
-        requires next { TurnsNext (M.mission mission.now) self.old }
-        ensures drives { Drives (M.mission mission.now) self.new (T.view port.new) }
-        ensures steps { Steps (M.mission mission.now) (desk_of self.old) (T.view port.old) result (desk_of self.new) (T.view port.new) (T.stands port.new) }
+    fn turn<T: Port>(&mut self, mission: &Mission, port: &mut T) -> Stepped
+        requires drives { Drives (flown_of mission.now) self.old (T.view port.old) }
+        requires end { at_end (flown_of mission.now) (desk_of self.old) ≡ true }
+        requires next { TurnsNext (flown_of mission.now) self.old }
+        ensures drives { Drives (flown_of mission.now) self.new (T.view port.new) }
+        ensures steps { Steps (flown_of mission.now) (desk_of self.old) (T.view port.old) result (desk_of self.new) (T.view port.new) (T.stands port.new) }
         ensures follows { T.follows port.old [] port.new }
     {
         match port.turn() {
@@ -176,9 +165,9 @@ impl Board {
     }
 
     /// Begins the next subframe, and the next frame after the last subframe.
-    fn go_on<M: Duty>(&mut self, mission: &M)
-        requires { MayGoOn (M.mission mission.now) self.old }
-        ensures { GoesOn (M.mission mission.now) self.old self.new }
+    fn go_on(&mut self, mission: &Mission)
+        requires { MayGoOn (flown_of mission.now) self.old }
+        ensures { GoesOn (flown_of mission.now) self.old self.new }
     {
         if self.subframe + 1 < mission.period() {
             self.subframe += 1;
@@ -192,10 +181,10 @@ impl Board {
 
     /// Accounts for the frame, and begins the next.
     #[inline(never)]
-    fn end_frame<M: Duty>(&mut self, mission: &M)
-        requires may { MayGoOn (M.mission mission.now) self.old }
-        requires last { self.old.subframe + 1 ≡ (M.mission mission.now).period }
-        ensures goes_on { GoesOn (M.mission mission.now) self.old self.new }
+    fn end_frame(&mut self, mission: &Mission)
+        requires may { MayGoOn (flown_of mission.now) self.old }
+        requires last { self.old.subframe + 1 ≡ (flown_of mission.now).period }
+        ensures goes_on { GoesOn (flown_of mission.now) self.old self.new }
         ensures begins { BeginsNext self.old self.new }
     {
         offsets_change_little();

@@ -2,13 +2,14 @@
 
 ghost use Rattle.std.specs.Prelude.{◌≡◌, ◌⊎◌, ◌<◌, ◌≤◌, true, false, nat_eq};
 ghost use Rattle.sift_base.specs.Units.{has};
+ghost use Rattle.sift_mission.specs.Parts.{flown_of};
 ghost use Rattle.sift_unit.specs.Desk.{is_call as at_call, is_end as at_end};
 ghost use Rattle.sift_unit.specs.Passing.{Passes, Onward, Finds, left};
 ghost use Rattle.sift_unit.specs.Conditions.{MayWalk, MayPass, IsAtSlot};
 ghost use Rattle.sift_unit.specs.Boards.{desk_of, IsSameBoard};
 
 use crate::board::Board;
-use sift_memory::{Duty, Part};
+use sift_mission::{Mission, Part};
 
 impl Board {
     /// Whether the board is in the part of its subframe in which it says words.
@@ -22,8 +23,8 @@ impl Board {
     }
 
     /// Whether the board stands at its subframe's end.
-    pub(crate) fn is_end<M: Duty>(&self, mission: &M) -> bool
-        ensures { result ≡ at_end (M.mission mission.now) (desk_of self.now) }
+    pub(crate) fn is_end(&self, mission: &Mission) -> bool
+        ensures { result ≡ at_end (flown_of mission.now) (desk_of self.now) }
     {
         match self.part {
             Part::Saying => self.slot == mission.slots(),
@@ -32,13 +33,13 @@ impl Board {
     }
 
     /// Goes on to the next call of this subframe, or to its end.
-    pub(crate) fn find_call<M: Duty>(&mut self, mission: &M)
-        requires walks { MayWalk (M.mission mission.now) (desk_of self.old) }
-        requires frame { self.old.frame < (M.mission mission.now).frames }
-        ensures passes { Passes (M.mission mission.now) (desk_of self.old) (desk_of self.new) }
+    pub(crate) fn find_call(&mut self, mission: &Mission)
+        requires walks { MayWalk (flown_of mission.now) (desk_of self.old) }
+        requires frame { self.old.frame < (flown_of mission.now).frames }
+        ensures passes { Passes (flown_of mission.now) (desk_of self.old) (desk_of self.new) }
         ensures nearer { left (desk_of self.new) ≤ left (desk_of self.old) }
         ensures same { IsSameBoard self.old self.new }
-        ensures found { at_end (M.mission mission.now) (desk_of self.new) ≡ false → at_call (M.mission mission.now) (desk_of self.new) ≡ true }
+        ensures found { at_end (flown_of mission.now) (desk_of self.new) ≡ false → at_call (flown_of mission.now) (desk_of self.new) ≡ true }
     {
         while !self.finds_unit(mission) && !self.is_end(mission) {
             self.pass(mission);
@@ -47,9 +48,9 @@ impl Board {
 
     /// Goes on to the next unit with which there is a call in the slot, and past them all where there is none; whether
     /// there is one.
-    fn finds_unit<M: Duty>(&mut self, mission: &M) -> bool
-        requires { MayWalk (M.mission mission.now) (desk_of self.old) }
-        ensures finds { Finds (M.mission mission.now) (desk_of self.old) result (desk_of self.new) }
+    fn finds_unit(&mut self, mission: &Mission) -> bool
+        requires { MayWalk (flown_of mission.now) (desk_of self.old) }
+        ensures finds { Finds (flown_of mission.now) (desk_of self.old) result (desk_of self.new) }
         ensures same { IsSameBoard self.old self.new }
     {
         if self.slot == mission.slots() {
@@ -63,10 +64,10 @@ impl Board {
     }
 
     /// Goes on to the next unit from which the slot is heard, if it is heard now; whether there is one.
-    fn finds_caller<M: Duty>(&mut self, mission: &M) -> bool
-        requires walks { MayWalk (M.mission mission.now) (desk_of self.old) }
-        requires at { IsAtSlot (M.mission mission.now) 0 (desk_of self.old) }
-        ensures finds { Finds (M.mission mission.now) (desk_of self.old) result (desk_of self.new) }
+    fn finds_caller(&mut self, mission: &Mission) -> bool
+        requires walks { MayWalk (flown_of mission.now) (desk_of self.old) }
+        requires at { IsAtSlot (flown_of mission.now) 0 (desk_of self.old) }
+        ensures finds { Finds (flown_of mission.now) (desk_of self.old) result (desk_of self.new) }
         ensures same { IsSameBoard self.old self.new }
     {
         if self.subframe != mission.heard_in(&self.cfg, self.slot) {
@@ -77,10 +78,10 @@ impl Board {
     }
 
     /// Goes on to the next unit to which the slot is said, if it is said now; whether there is one.
-    fn finds_called<M: Duty>(&mut self, mission: &M) -> bool
-        requires walks { MayWalk (M.mission mission.now) (desk_of self.old) }
-        requires at { IsAtSlot (M.mission mission.now) 2 (desk_of self.old) }
-        ensures finds { Finds (M.mission mission.now) (desk_of self.old) result (desk_of self.new) }
+    fn finds_called(&mut self, mission: &Mission) -> bool
+        requires walks { MayWalk (flown_of mission.now) (desk_of self.old) }
+        requires at { IsAtSlot (flown_of mission.now) 2 (desk_of self.old) }
+        ensures finds { Finds (flown_of mission.now) (desk_of self.old) result (desk_of self.new) }
         ensures same { IsSameBoard self.old self.new }
     {
         if self.subframe != mission.due(&self.cfg, self.slot) {
@@ -92,10 +93,10 @@ impl Board {
 
     /// Goes on where nothing is to be said or heard. What isn't due is not looked at.
     #[inline(never)]
-    fn pass<M: Duty>(&mut self, mission: &M)
-        requires may { MayPass (M.mission mission.now) (desk_of self.old) }
-        requires inside { at_end (M.mission mission.now) (desk_of self.old) ≡ false }
-        ensures onward { Onward (M.mission mission.now) (desk_of self.old) (desk_of self.new) }
+    fn pass(&mut self, mission: &Mission)
+        requires may { MayPass (flown_of mission.now) (desk_of self.old) }
+        requires inside { at_end (flown_of mission.now) (desk_of self.old) ≡ false }
+        ensures onward { Onward (flown_of mission.now) (desk_of self.old) (desk_of self.new) }
         ensures same { IsSameBoard self.old self.new }
     {
         if !self.cfg.has(self.unit) {
@@ -124,11 +125,11 @@ impl Board {
     }
 
     /// Goes to the subframe's end, since the unit is outside its configuration.
-    fn rest<M: Duty>(&mut self, mission: &M)
-        requires walks { MayWalk (M.mission mission.now) (desk_of self.old) }
+    fn rest(&mut self, mission: &Mission)
+        requires walks { MayWalk (flown_of mission.now) (desk_of self.old) }
         requires out { has self.old.cfg self.old.unit ≡ false }
-        requires inside { at_end (M.mission mission.now) (desk_of self.old) ≡ false }
-        ensures onward { Onward (M.mission mission.now) (desk_of self.old) (desk_of self.new) }
+        requires inside { at_end (flown_of mission.now) (desk_of self.old) ≡ false }
+        ensures onward { Onward (flown_of mission.now) (desk_of self.old) (desk_of self.new) }
         ensures same { IsSameBoard self.old self.new }
     {
         self.part = Part::Saying;
@@ -137,11 +138,11 @@ impl Board {
     }
 
     /// Goes on to the next part of the subframe.
-    fn next_part<M: Duty>(&mut self, mission: &M)
-        requires walks { MayWalk (M.mission mission.now) (desk_of self.old) }
-        requires end { (self.old.slot ≡ (M.mission mission.now).slots) ⊎ (((desk_of self.old).part ≡ 1) × ((M.mission mission.now).tasks ≤ self.old.slot)) }
+    fn next_part(&mut self, mission: &Mission)
+        requires walks { MayWalk (flown_of mission.now) (desk_of self.old) }
+        requires end { (self.old.slot ≡ (flown_of mission.now).slots) ⊎ (((desk_of self.old).part ≡ 1) × ((flown_of mission.now).tasks ≤ self.old.slot)) }
         requires inside { (desk_of self.old).part < 2 }
-        ensures onward { Onward (M.mission mission.now) (desk_of self.old) (desk_of self.new) }
+        ensures onward { Onward (flown_of mission.now) (desk_of self.old) (desk_of self.new) }
         ensures same { IsSameBoard self.old self.new }
     {
         self.part = self.part.next();
@@ -150,11 +151,11 @@ impl Board {
     }
 
     /// Goes past a slot. If it was heard, all of it was, and its words are noted.
-    fn pass_hearing<M: Duty>(&mut self, mission: &M)
-        requires may { MayPass (M.mission mission.now) (desk_of self.old) }
+    fn pass_hearing(&mut self, mission: &Mission)
+        requires may { MayPass (flown_of mission.now) (desk_of self.old) }
         requires member { has self.old.cfg self.old.unit ≡ true }
-        requires at { IsAtSlot (M.mission mission.now) 0 (desk_of self.old) }
-        ensures onward { Onward (M.mission mission.now) (desk_of self.old) (desk_of self.new) }
+        requires at { IsAtSlot (flown_of mission.now) 0 (desk_of self.old) }
+        ensures onward { Onward (flown_of mission.now) (desk_of self.old) (desk_of self.new) }
         ensures same { IsSameBoard self.old self.new }
     {
         if self.subframe != mission.heard_in(&self.cfg, self.slot) {
@@ -176,10 +177,10 @@ impl Board {
     }
 
     /// Goes past a task, which it runs if it is due.
-    fn pass_running<M: Duty>(&mut self, mission: &M)
-        requires walks { MayWalk (M.mission mission.now) (desk_of self.old) }
-        requires at { IsAtSlot (M.mission mission.now) 1 (desk_of self.old) }
-        ensures onward { Onward (M.mission mission.now) (desk_of self.old) (desk_of self.new) }
+    fn pass_running(&mut self, mission: &Mission)
+        requires walks { MayWalk (flown_of mission.now) (desk_of self.old) }
+        requires at { IsAtSlot (flown_of mission.now) 1 (desk_of self.old) }
+        ensures onward { Onward (flown_of mission.now) (desk_of self.old) (desk_of self.new) }
         ensures same { IsSameBoard self.old self.new }
     {
         if self.slot >= mission.tasks() {

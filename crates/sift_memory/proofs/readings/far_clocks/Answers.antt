@@ -6,22 +6,23 @@ use Rattle.sift_base.specs.laws.Counts.{has_place}
 use Rattle.sift_clock.specs.Correction.{is_too_far}
 use Rattle.sift_config.specs.laws.Lists.{has_front, get-drop}
 use Rattle.sift_config.specs.laws.Joining.{failing_stays, passing_joins}
+use Rattle.sift_mission.specs.Parts.{flown_of}
 use Rattle.sift_memory.specs.Memory.{reading_at}
 use Rattle.sift_memory.proofs.readings.far_clocks.Goals as goal
 use Rattle.sift_memory.proofs.readings.far_clocks.Goals.{then-is_far, else-is_far}
 
 pub loop-position-init : goal.loop-position-init
-loop-position-init g c = λ v. ap (λ units. holds units v) c.empty-far.ensures ∙ set.contains-empty nat_cmp v
+loop-position-init c = λ v. ap (λ units. holds units v) c.empty-far.ensures ∙ set.contains-empty nat_cmp v
 
 -- the other unit is one of the mission
 pub is_far-requires-clause-other : goal.is_far-requires-clause-other
-is_far-requires-clause-other g c =
+is_far-requires-clause-other c =
     c.requires.config.inside c.unit_at-other.result (has_place c.args.config.now c.loop-position.position c.unit_at-other.result c.unit_at-other.ensures)
 
 -- one unit more
 pub loop-position-preserved : goal.loop-position-preserved
-loop-position-preserved g c = λ v.
-    let m = g.M.Duty.mission c.args.mission.now in
+loop-position-preserved c = λ v.
+    let m = flown_of c.args.mission.now in
     let us = c.args.config.now in
     let i = c.loop-position.position in
     let t = c.unit_at-other.result in

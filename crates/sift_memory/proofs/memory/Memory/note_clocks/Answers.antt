@@ -1,14 +1,15 @@
 use Rattle.std.proofs.Common.{rules, ◌&&◌, not, nat_eq}
 use Rattle.std.specs.Prelude.{◌+ℤ◌}
 use Rattle.sift_clock.specs.Correction.{is_too_far}
+use Rattle.sift_mission.specs.Parts.{flown_of}
 use Rattle.sift_memory.specs.Memory.{reading_at}
 use Rattle.sift_memory.specs.Memories.{memory_of}
 use Rattle.sift_memory.proofs.Memories.{is_gathered, clocks_same}
 use Rattle.sift_memory.proofs.memory.Memory.note_clocks.Goals as goal
 
 pub returns-clause-noted : goal.returns-clause-noted
-returns-clause-noted g c =
-    let m = g.M.Duty.mission c.args.mission.now in
+returns-clause-noted c =
+    let m = flown_of c.args.mission.now in
     let b = memory_of c.args.self.now in
     let u = c.args.unit in
     let clk = c.args.clk.now in

@@ -2,6 +2,8 @@ use Rattle.std.proofs.Common.{◌≡◌, ◌∙◌, ◌&&◌, ap, map, nat_eq, l
 use Rattle.std.specs.List.{filter}
 use Rattle.std.specs.Prelude.{ℕ, Option, if◌then◌else◌, slice_index, slice_set, unwrap_or}
 use Rattle.sift_vote.specs.Majority.{majority_of, differs, has_differing}
+use Rattle.sift_base.specs.Units.{has}
+use Rattle.sift_mission.specs.Parts.{flown_of}
 use Rattle.sift_memory.specs.FrameWords.{FrameWords, with_voted}
 use Rattle.sift_mission.specs.Slots.{executors, is_held}
 use Rattle.sift_memory.specs.Memory.{polled_at, poll_of, voted_at}
@@ -11,8 +13,8 @@ use Rattle.sift_memory.proofs.Polls.{empty_poll}
 use Rattle.sift_memory.proofs.memory.Memory.note_poll.Goals as goal
 
 pub returns-clause-noted : goal.returns-clause-noted
-returns-clause-noted g c =
-    let m = g.M.Duty.mission c.args.mission.now in
+returns-clause-noted c =
+    let m = flown_of c.args.mission.now in
     let b = memory_of c.args.self.now in
     let us = c.args.config.now in
     let u = c.args.unit in
@@ -42,4 +44,4 @@ returns-clause-noted g c =
 
 -- the words before stay
 pub returns-clause-before : goal.returns-clause-before
-returns-clause-before g c = ap (λ (w : FrameWords). w.before) c.vote.ensures
+returns-clause-before c = ap (λ (w : FrameWords). w.before) c.vote.ensures

@@ -3,6 +3,7 @@ use Rattle.std.specs.Prelude.{slice_set, Some}
 use Rattle.sift_base.specs.Units.{others}
 use Rattle.sift_vote.specs.Majority.{agreed_of, differs}
 use Rattle.sift_config.specs.Config.{reader_of}
+use Rattle.sift_mission.specs.Parts.{flown_of}
 use Rattle.sift_memory.specs.FrameWords.{FrameWords, with_agreed}
 use Rattle.sift_memory.specs.Memory.{place_at, input_at}
 use Rattle.sift_memory.specs.Memories.{memory_of}
@@ -12,8 +13,8 @@ use Rattle.sift_memory.proofs.memory.Memory.note_relays.Goals as goal
 
 -- the reader's own word, and who relayed another
 pub returns-then-eq-clause-noted : goal.returns-then-eq-clause-noted
-returns-then-eq-clause-noted g c =
-    let m = g.M.Duty.mission c.args.mission.now in
+returns-then-eq-clause-noted c =
+    let m = flown_of c.args.mission.now in
     let b = memory_of c.args.self.now in
     let us = c.args.config.now in
     let u = c.args.unit in
@@ -30,8 +31,8 @@ returns-then-eq-clause-noted g c =
 
 -- the agreed word
 pub returns-clause-noted : goal.returns-clause-noted
-returns-clause-noted g c =
-    let m = g.M.Duty.mission c.args.mission.now in
+returns-clause-noted c =
+    let m = flown_of c.args.mission.now in
     let b = memory_of c.args.self.now in
     let us = c.args.config.now in
     let u = c.args.unit in
@@ -52,7 +53,7 @@ returns-clause-noted g c =
 
 -- the words before stay
 pub returns-then-eq-clause-before : goal.returns-then-eq-clause-before
-returns-then-eq-clause-before g c = ap (λ (w : FrameWords). w.before) c.agree.ensures
+returns-then-eq-clause-before c = ap (λ (w : FrameWords). w.before) c.agree.ensures
 
 pub returns-clause-before : goal.returns-clause-before
-returns-clause-before g c = ap (λ (w : FrameWords). w.before) c.agree-2.ensures
+returns-clause-before c = ap (λ (w : FrameWords). w.before) c.agree-2.ensures

@@ -4,6 +4,7 @@ use Rattle.std.specs.List.{list_any, range_with_len}
 use Rattle.sift_base.specs.Units.{has, holds}
 use Rattle.sift_exec.specs.declared.catches.Catches.{Catches}
 use Rattle.sift_exec.specs.declared.catches.Kind.TheVariants.{Poll, Relay, Clock}
+use Rattle.sift_mission.specs.Parts.{flown_of}
 use Rattle.sift_memory.specs.Memory.{units_at}
 use Rattle.sift_memory.specs.Tidings.{poll_now, relay_now, clock_now}
 use Rattle.sift_memory.specs.Memories.{memory_of}
@@ -14,7 +15,7 @@ use Rattle.sift_memory.proofs.memory.Memory.record.Goals.{then-has, else-has, th
 
 -- nobody is noted at first
 pub loop-position-init : goal.loop-position-init
-loop-position-init g c = record {
+loop-position-init c = record {
   polls = λ v. ap (λ (r : Catches). holds r.poll v) c.new-recorder.ensures ∙ set.contains-empty nat_cmp v;
   relays = λ v. ap (λ (r : Catches). holds r.relay v) c.new-recorder.ensures ∙ set.contains-empty nat_cmp v;
   clocks = λ v. ap (λ (r : Catches). holds r.clock v) c.new-recorder.ensures ∙ set.contains-empty nat_cmp v;
@@ -22,7 +23,7 @@ loop-position-init g c = record {
 
 -- one unit more is noted in each way in which it was caught
 pub loop-position-preserved : goal.loop-position-preserved
-loop-position-preserved g c =
+loop-position-preserved c =
     let us = c.args.config.now in
     let i = c.loop-position.position in
     let t = c.unit_at-unit.result in
@@ -58,8 +59,8 @@ loop-position-preserved g c =
 
 -- all units are noted
 pub returns : goal.returns
-returns g c =
-    let m = g.M.Duty.mission c.args.mission.now in
+returns c =
+    let m = flown_of c.args.mission.now in
     let us = c.args.config.now in
     let b = memory_of c.args.self.now in
     let so_far = c.loop-position.invariant in

@@ -1,9 +1,10 @@
 use Rattle.std.proofs.Common.{◌≡◌, map, take}
+use Rattle.sift_mission.specs.Parts.{flown_of}
 use Rattle.sift_memory.specs.Tidings.{report_taken}
 use Rattle.sift_memory.specs.Memories.{memory_of}
 use Rattle.sift_memory.proofs.memory.Memory.reports_taken.Given as goal
 
 -- the reports of the units so far
 abbrev pub invariant-loop-position : goal.invariant-loop-position
-invariant-loop-position g l =
-    l.reports.items ≡ map (report_taken (g.M.Duty.mission l.fn.mission) l.fn.config l.fn.unit (memory_of l.fn.self)) (take l.position l.fn.config)
+invariant-loop-position l =
+    l.reports.items ≡ map (report_taken (flown_of l.fn.mission) l.fn.config l.fn.unit (memory_of l.fn.self)) (take l.position l.fn.config)

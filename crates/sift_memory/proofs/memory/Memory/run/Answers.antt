@@ -1,4 +1,5 @@
 use Rattle.std.proofs.Common.{sym}
+use Rattle.sift_mission.specs.Parts.{flown_of}
 use Rattle.sift_memory.specs.Memory.{is_made_by}
 use Rattle.sift_memory.specs.Memories.{memory_of}
 use Rattle.sift_memory.proofs.InTurn.{renewed-none, made_not}
@@ -6,8 +7,8 @@ use Rattle.sift_memory.proofs.memory.Memory.run.Goals as goal
 
 -- nothing is made by a unit that doesn't run the task
 pub returns-else-runs-clause-made : goal.returns-else-runs-clause-made
-returns-else-runs-clause-made g c =
-    let m = g.M.Duty.mission c.args.mission.now in
+returns-else-runs-clause-made c =
+    let m = flown_of c.args.mission.now in
     let us = c.args.config.now in
     let b = memory_of c.args.self.now in
     let u = c.args.unit in

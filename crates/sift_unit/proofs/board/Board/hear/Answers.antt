@@ -1,5 +1,5 @@
-use Rattle.std.proofs.Common.{refl}
-use Rattle.sift_unit.proofs.Driving.{may_hear_at, hear_slot, hear_inside, hear_drives, hear_moves}
+use Rattle.std.proofs.Common.{refl, arith}
+use Rattle.sift_unit.proofs.Driving.{may_hear_at, hear_low, hear_slot, hear_inside, hear_drives, hear_moves}
 use Rattle.sift_unit.proofs.board.Board.hear.Goals as goal
 
 pub stamp-stamp-requires-clause-slot : goal.stamp-stamp-requires-clause-slot
@@ -22,3 +22,10 @@ pub returns-in-Some-clause-moved : goal.returns-in-Some-clause-moved
 returns-in-Some-clause-moved g c =
     hear_moves _ c.args.self.now (g.T.Look.view c.args.port.now) c.requires.flight c.requires.here
     _ _ _ _ _ c.in-Some.ensures.found.0 c.stamp-stamp.ensures c.hear-word.ensures.heard
+
+-- it stands at one of the mission's units
+pub unreachable-requires : goal.unreachable-requires
+unreachable-requires g c =
+    let low = hear_low _ c.args.self.now (g.T.Look.view c.args.port.now) c.requires.flight c.requires.here in
+    let high = c.in_default.ensures.none in
+    omega arith

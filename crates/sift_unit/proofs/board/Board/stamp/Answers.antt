@@ -1,4 +1,4 @@
 use Rattle.sift_unit.proofs.board.Board.stamp.Goals as goal
 
 pub returns : goal.returns
-returns g c = rw (c.period.ensures, c.due.ensures)
+returns c = rw (c.period.ensures, c.due.ensures)
