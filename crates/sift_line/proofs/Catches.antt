@@ -10,7 +10,7 @@ use Rattle.std.proofs.lemmas.Bool.Decides.{Decides-and, Decides-eqb, Decides-lik
 use Rattle.std.proofs.lemmas.Cmp.{nat_cmp_total}
 use Rattle.std.proofs.lemmas.List.{length-map}
 use Rattle.std.proofs.lemmas.List.Folds.{list_any_more}
-use Rattle.std.proofs.lemmas.List.Elements.{All-cons, All-map, All-nil}
+use Rattle.std.proofs.lemmas.List.Elements.{All-cons, All-head, All-map, All-nil, All-tail}
 use Rattle.std.proofs.lemmas.Simd.{map-map}
 use Rattle.sift_base.specs.Units.{Units, AreUnits, has, holds, members, unit_numbers}
 use Rattle.sift_base.specs.laws.ReadBack.{has-filter, has_low}
@@ -219,3 +219,20 @@ one_told list caught told are by =
 -- what the list of the catches tells is those catches
 pub caught_again : (caught told : Catches) → IsBad (ByKind caught) → IsToldBy (catches_in caught) told → told ≡ caught
 caught_again caught told are by = one_told (catches_in caught) caught told (list_tells caught are) by
+
+-- a unit that a list of catches tells is one
+told_unit : (list : List Catch) (kind : Kind) (u : ℕ) → All IsCatch list → list_any (λ c. nat_eq c.unit u && has_kind c.kinds kind) list ≡ true → u < 8
+told_unit [] kind u all told = cc
+told_unit (c ∷ list) kind u all told = elim (cases_Bool (nat_eq c.unit u)) [
+  | inl own ↦ let same = eqb-true c.unit u own in let few = (All-head IsCatch c list all).0 in omega arith
+  | inr other ↦ told_unit list kind u (All-tail IsCatch c list all) (rw other at told)
+]
+
+-- so are all that a list of catches tells in one way
+told_units : (list : List Catch) (kind : Kind) (units : Units) → All IsCatch list → AreTold list kind units → AreUnits units
+told_units list kind units all told u there = told_unit list kind u all (sym (told u) ∙ there)
+
+-- and all that it tells
+pub told_bad : (list : List Catch) (caught : Catches) → All IsCatch list → IsToldBy list caught → IsBad (ByKind caught)
+told_bad list caught all told =
+    (told_units list Poll caught.poll all told.poll, told_units list Relay caught.relay all told.relay, told_units list Clock caught.clock all told.clock)

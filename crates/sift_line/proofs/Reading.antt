@@ -2,17 +2,18 @@
 use Rattle.std.proofs.Common.{◌≡◌, ℕ, ◌+◌, ◌<◌, List, [], ◌∷◌, ◌++◌, length, map, take, get_or, refl, sym, ap, ◌∙◌, arith}
 use Rattle.std.specs.List.{All}
 use Rattle.std.proofs.lemmas.List.{take_more, map-append, get_or-map, length-map, length-take-le, take_all}
-use Rattle.std.proofs.lemmas.List.Elements.{All-get_or}
+use Rattle.std.proofs.lemmas.List.Elements.{All-get_or, All-nil, All-push}
 
 module _ {V X : Type 0} (text : V → X) (Holds : V → Type 0) where
-  -- what was read of the first k parts: its texts are they, and each list of these texts begins with it
+  -- what was read of the first k parts: values, whose texts are they, and each list of these texts begins with it
   pub record IsRead (parts : List X) (k : ℕ) (items : List V) : Type 0 where
+    pub all : All Holds items
     pub printed : map text items ≡ take k parts
     pub exact : (vs : List V) → All Holds vs → map text vs ≡ parts → items ≡ take k vs
 
   -- at first nothing was read
   pub none_read : (parts : List X) → IsRead parts 0 []
-  none_read parts = record { printed = refl; exact = λ vs all e. refl }
+  none_read parts = record { all = All-nil Holds; printed = refl; exact = λ vs all e. refl }
 
   as_many : (parts : List X) (vs : List V) → map text vs ≡ parts → length parts ≡ length vs
   as_many parts vs e = sym (ap length e) ∙ length-map vs text
@@ -23,8 +24,9 @@ module _ {V X : Type 0} (text : V → X) (Holds : V → Type 0) where
 
   -- one part more
   pub more_read : (parts : List X) (k : ℕ) (items : List V) (v : V) (part : X) → IsRead parts k items → k < length parts → part ≡ get_or parts k part
-      → text v ≡ part → ((w : V) → Holds w → text w ≡ part → v ≡ w) → IsRead parts (k + 1) (items ++ v ∷ [])
-  more_read parts k items v part so_far there is printed exact = record {
+      → Holds v → text v ≡ part → ((w : V) → Holds w → text w ≡ part → v ≡ w) → IsRead parts (k + 1) (items ++ v ∷ [])
+  more_read parts k items v part so_far there is holds printed exact = record {
+    all = All-push Holds items v so_far.all holds;
     printed =
         map-append text items (v ∷ []) ∙ ap (λ xs. xs ++ text v ∷ []) so_far.printed
         ∙ ap (λ x. take k parts ++ x ∷ []) (printed ∙ is) ∙ sym (take_more parts k part there);

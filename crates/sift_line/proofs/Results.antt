@@ -1,12 +1,16 @@
 -- What results, options and tests of texts tell.
-use Rattle.std.proofs.Common.{◌≡◌, ◌∙◌, ℕ, List, Bool, true, false, Result, Ok, Err, Some, None, bytes_eq, sym}
+use Rattle.std.proofs.Common.{◌≡◌, ◌∙◌, ℕ, List, Bool, true, false, Result, Ok, Err, Some, None, bytes_eq, refl, sym}
 use Rattle.std.proofs.lemmas.Slice.Eq.{bytes_eq-Decides}
-use Rattle.std.specs.Result.{OnOk, OnErr, result_ok}
+use Rattle.std.specs.Result.{IsOk, OnOk, OnErr, result_ok}
 
 -- where there is a value, the result was one
 pub on_ok : {T E : Type 0} (r : Result T E) (x : T) (P : Type 0) → result_ok r ≡ Some x → OnOk r P → P
 on_ok (Ok y) x P e h = h
 on_ok (Err y) x P e h = (cc)
+
+pub is_ok : {T E : Type 0} (r : Result T E) (x : T) → result_ok r ≡ Some x → IsOk r
+is_ok (Ok y) x e = refl
+is_ok (Err y) x e = (cc)
 
 -- and where there is none, it was an error
 pub on_err : {T E : Type 0} (r : Result T E) (P : Type 0) → result_ok r ≡ None → OnErr r P → P

@@ -42,6 +42,7 @@ impl Bad {
 
 /// The caught units behind a label in a report of this version, where there are some.
 pub fn bad_field(text: &str, label: &str, version: Version) -> Option<Bad>
+    ensures part { IfSome result IsBad }
     ensures version { IfSome result (λ bad. version_of bad ≡ version) }
     ensures printed { IfSome result (λ bad. label.now ++ caught_text bad ≡ text.now) }
     ensures exact { (bad : Told) → IsBad bad → version_of bad ≡ version → label.now ++ caught_text bad ≡ text.now → result ≡ Some bad }

@@ -71,6 +71,7 @@ impl Part for Catches {
 
 /// The ways that have these letters, where there are some.
 fn read_kinds(letters: &[u8]) -> Option<Kinds>
+    ensures part { IfSome result IsSomeKind }
     ensures printed { IfSome result (λ kinds. kinds_text kinds ≡ letters.now) }
     ensures exact { (kinds : TheKinds) → IsSomeKind kinds → kinds_text kinds ≡ letters.now → result ≡ Some kinds }
 {

@@ -26,6 +26,7 @@ pub fn read_unit_line(
     bad: &str,
     version: Version,
 ) -> Option<ReportLine>
+    ensures line { IfSome result IsLine }
     ensures version { IfSome result (HasVersion version) }
     ensures printed { IfSome result (λ line. fields_of line
         ≡ f.now ∷ u.now ∷ cfg.now ∷ clk.now ∷ ins.now ∷ outs.now ∷ bad.now ∷ []) }
@@ -54,6 +55,7 @@ pub fn read_unit_line(
 
 /// The line of a unit that tells no account, from its fields: the last one is its state.
 pub fn read_state_line(f: &str, u: &str, state: &str) -> Option<ReportLine>
+    ensures line { IfSome result IsLine }
     ensures printed { IfSome result (λ line. fields_of line ≡ f.now ∷ u.now ∷ state.now ∷ []) }
     ensures exact { (line : ReportLine) → IsLine line → fields_of line ≡ f.now ∷ u.now ∷ state.now ∷ [] → result ≡ Some line }
 {
@@ -67,6 +69,7 @@ pub fn read_state_line(f: &str, u: &str, state: &str) -> Option<ReportLine>
 
 /// The frame and the unit that a line of a unit begins with, from their fields.
 fn read_head(f: &str, u: &str) -> Option<(u32, UnitId)>
+    ensures part { IfSome result (λ head. (head.0 < 2 ^ 32) × (head.1 < unit_limit)) }
     ensures printed { IfSome result (λ head. (codes "f=" ++ decimal head.0 ≡ f.now) × (codes "u=" ++ unit_digit head.1 ∷ [] ≡ u.now)) }
     ensures exact { (n v : ℕ) → n < 2 ^ 32 → v < unit_limit → codes "f=" ++ decimal n ≡ f.now → codes "u=" ++ unit_digit v ∷ [] ≡ u.now
         → result ≡ Some (n, v) }
@@ -83,6 +86,7 @@ pub fn read_frame_or_last_line(
     third: &str,
     margin: &str,
 ) -> Option<ReportLine>
+    ensures line { IfSome result IsLine }
     ensures printed { IfSome result (λ line. fields_of line ≡ first.now ∷ second.now ∷ third.now ∷ margin.now ∷ []) }
     ensures exact { (line : ReportLine) → IsLine line → fields_of line ≡ first.now ∷ second.now ∷ third.now ∷ margin.now ∷ []
         → result ≡ Some line }
@@ -95,6 +99,7 @@ pub fn read_frame_or_last_line(
 
 /// The line of a whole frame, from its fields.
 fn read_frame_line(f: &str, skew: &str, slack: &str, margin: &str) -> Option<ReportLine>
+    ensures line { IfSome result IsLine }
     ensures printed { IfSome result (λ line. fields_of line ≡ f.now ∷ skew.now ∷ slack.now ∷ margin.now ∷ []) }
     ensures exact { (n : ℕ) (most left : Option ℤ) (has : Bool) → IsLine (ReportLine.Frame n most left has)
         → fields_of (ReportLine.Frame n most left has) ≡ f.now ∷ skew.now ∷ slack.now ∷ margin.now ∷ []
@@ -114,6 +119,7 @@ fn read_frame_line(f: &str, skew: &str, slack: &str, margin: &str) -> Option<Rep
 
 /// The last line, from its fields behind the first.
 fn read_last_line(frames: &str, cfg: &str, margin: &str) -> Option<ReportLine>
+    ensures line { IfSome result IsLine }
     ensures printed { IfSome result (λ line. fields_of line ≡ codes "end" ∷ frames.now ∷ cfg.now ∷ margin.now ∷ []) }
     ensures exact { (n : ℕ) (us : List ℕ) (has : Bool) → IsLine (ReportLine.Last n us has)
         → fields_of (ReportLine.Last n us has) ≡ codes "end" ∷ frames.now ∷ cfg.now ∷ margin.now ∷ []

@@ -36,6 +36,7 @@ pub fn push_list<T: Item>(text: &mut String, items: &[T]) -> Result<(), AllocErr
 
 /// The list that is printed so, of at most `N` parts, where there is one.
 pub fn read_list<T: ListPart, const N: usize>(text: &str) -> Option<ArrayVec<T, N>>
+    ensures part { IfSome result (λ list. All T.IsPart list.items × (length list.items ≤ N)) }
     ensures printed { IfSome result (λ list. list_text (map T.text_of list.items) ≡ text.now) }
     ensures exact { (list : Items T) → All T.IsPart list.items → length list.items ≤ N
         → list_text (map T.text_of list.items) ≡ text.now → result ≡ Some list }

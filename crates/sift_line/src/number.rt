@@ -8,6 +8,7 @@ ghost use Rattle.sift_line.specs.Number.{IsPlain, IsSigned};
 
 /// The number that is printed so, where there is one.
 pub fn read_number(text: &str) -> Option<u32>
+    ensures part { IfSome result (λ n. n < 2 ^ 32) }
     ensures printed { IfSome result (λ n. decimal n ≡ text.now) }
     ensures exact { (n : ℕ) → n < 2 ^ 32 → decimal n ≡ text.now → result ≡ Some n }
 {
@@ -20,6 +21,7 @@ pub fn read_number(text: &str) -> Option<u32>
 
 /// The signed number that is printed so, where there is one.
 pub fn read_signed(text: &str) -> Option<i64>
+    ensures part { IfSome result (FitsSigned w64) }
     ensures printed { IfSome result (λ z. signed_decimal z ≡ text.now) }
     ensures exact { (z : ℤ) → FitsSigned w64 z → signed_decimal z ≡ text.now → result ≡ Some z }
 {

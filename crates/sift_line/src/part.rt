@@ -29,6 +29,7 @@ pub trait Part: Sized {
 
     /// The part that is printed so, where there is one.
     fn read(text: &str) -> Option<Self>
+        ensures part { IfSome result IsPart }
         ensures printed { IfSome result (λ part. text_of part ≡ text.now) }
         ensures exact { (part : Self) → IsPart part → text_of part ≡ text.now → result ≡ Some part };
 }
@@ -41,6 +42,7 @@ pub trait ListPart: Part + Default + Drop {
 
 /// The part behind a label, where there is one.
 pub fn field<T: Part>(field: &str, label: &str) -> Option<T>
+    ensures part { IfSome result T.IsPart }
     ensures printed { IfSome result (λ part. label.now ++ T.text_of part ≡ field.now) }
     ensures exact { (part : T) → T.IsPart part → label.now ++ T.text_of part ≡ field.now → result ≡ Some part }
 {

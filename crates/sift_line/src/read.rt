@@ -17,17 +17,6 @@ pub fn read_line(line: &str, version: Version) -> Option<ReportLine>
     ensures printed { IfSome result (λ read. line_text read ≡ line.now) }
     ensures exact { (l : ReportLine) → IsLine l → HasVersion version l → line_text l ≡ line.now → result ≡ Some l }
 {
-    let read = read_printed(line, version)?;
-    read.holds_its_fields();
-    Some(read)
-}
-
-/// The same, of its fields.
-fn read_printed(line: &str, version: Version) -> Option<ReportLine>
-    ensures version { IfSome result (HasVersion version) }
-    ensures printed { IfSome result (λ read. line_text read ≡ line.now) }
-    ensures exact { (l : ReportLine) → IsLine l → HasVersion version l → line_text l ≡ line.now → result ≡ Some l }
-{
     let fields = split_fields(line)?;
     read_fields(&fields, version)
 }
@@ -46,6 +35,7 @@ fn split_fields<'a>(line: &'a str) -> Option<ArrayVec<&'a str, 8>>
 
 /// The line that has these fields, where there is one. How many there are, and a fixed word, tell its form.
 fn read_fields(fields: &[&str], version: Version) -> Option<ReportLine>
+    ensures line { IfSome result IsLine }
     ensures version { IfSome result (HasVersion version) }
     ensures printed { IfSome result (λ line. fields_of line ≡ map (λ f. f.now) fields.now) }
     ensures exact { (line : ReportLine) → IsLine line → HasVersion version line

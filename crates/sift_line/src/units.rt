@@ -12,6 +12,7 @@ use sift_config::Config;
 
 /// The unit that is printed so, where there is one.
 pub fn read_unit(text: &str) -> Option<UnitId>
+    ensures part { IfSome result (λ u. u < unit_limit) }
     ensures printed { IfSome result (λ u. unit_digit u ∷ [] ≡ text.now) }
     ensures exact { (u : ℕ) → u < unit_limit → unit_digit u ∷ [] ≡ text.now → result ≡ Some u }
 {
@@ -23,6 +24,7 @@ pub fn read_unit(text: &str) -> Option<UnitId>
 
 /// The unit that has this digit, where there is one.
 pub fn read_digit(digit: u8) -> Option<UnitId>
+    ensures part { IfSome result (λ u. u < unit_limit) }
     ensures printed { IfSome result (λ u. unit_digit u ≡ digit) }
     ensures exact { (u : ℕ) → u < unit_limit → unit_digit u ≡ digit → result ≡ Some u }
 {
@@ -79,6 +81,7 @@ fn set_of(units: &[UnitId]) -> UnitSet
 
 /// The configuration that is printed so, where there is one.
 pub fn read_config(text: &str) -> Option<Config>
+    ensures part { IfSome result IsConfig }
     ensures printed { IfSome result (λ cfg. units_text cfg ≡ text.now) }
     ensures exact { (cfg : List ℕ) → IsConfig cfg → units_text cfg ≡ text.now → result ≡ Some cfg }
 {

@@ -18,6 +18,7 @@ pub fn labelled<'a>(field: &'a str, label: &str) -> Option<&'a str>
 
 /// The ticks that are printed so, where there are some.
 pub fn read_ticks(text: &str) -> Option<Option<i64>>
+    ensures part { IfSome result (λ ticks. IfSome ticks (FitsSigned w64)) }
     ensures printed { IfSome result (λ ticks. text_or_dash signed_decimal ticks ≡ text.now) }
     ensures exact { (ticks : Option ℤ) → IfSome ticks (FitsSigned w64) → text_or_dash signed_decimal ticks ≡ text.now → result ≡ Some ticks }
 {

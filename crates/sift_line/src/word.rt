@@ -8,6 +8,7 @@ use sift_base::Word;
 
 /// The word that is printed so, where there is one.
 pub fn read_word(text: &str) -> Option<Word>
+    ensures part { IfSome result (λ w. w < 2 ^ 16) }
     ensures printed { IfSome result (λ w. word_text w ≡ text.now) }
     ensures exact { (w : ℕ) → w < 2 ^ 16 → word_text w ≡ text.now → result ≡ Some w }
 {

@@ -52,6 +52,7 @@ pub(crate) fn entries_of(
     let period = period_of(root.subframes, count);
     let tables = tables_of(alloc, document, root.version, root.units, period, count)?;
     let script = script_of(alloc, document)?;
+    // The tables again: what they shed is rule 31, and a document is told the first rule that it breaks, of its faults too.
     check_sheds(alloc, document)?;
     Ok(Entries {
         units: root.units,

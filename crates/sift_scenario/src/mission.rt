@@ -35,14 +35,6 @@ pub fn mission_of(alloc: Global, document: &Table) -> Result<Mission, Stop<Refus
         → IfErr result (λ why. why ≡ Stop.NoMemory) }
     ensures exact { (owed : Refused) → IsRefusedWith (table_view document.now) owed → OnlyRefuses owed result }
 {
-    read_mission(alloc, document)
-}
-
-/// The mission that a document states, or what refuses it.
-fn read_mission(alloc: Global, document: &Table) -> Result<Mission, Stop<Refused>>
-    ensures accepted { IfOk result (λ mission. IsMission (table_view document.now) (data_of mission)) }
-    ensures refused { IfErr result (IfRefused (IsRefusedWith (table_view document.now))) }
-{
     let entries = lawful_entries(alloc, document)?;
     let running = run_entries(alloc, &entries)?;
     assemble(alloc, entries, running)

@@ -268,7 +268,8 @@ fn shed_at(alloc: Global, table: &toml::Table) -> Result<Option<Vec<u8>>, NoMemo
 /// Tests that each table of a document sheds numbers of tasks, where it says what it sheds.
 ///
 /// This is rule 31, the last of a document, which is broken at the first table whose `shed` is no array of integers from 0 to
-/// 23. A document without `table` keeps it.
+/// 23. A document without `table` keeps it. It can't be tested with the other rules of tables: a document whose faults break one
+/// of rules 26 to 30 as well is told that one.
 pub fn check_sheds(alloc: Global, document: &toml::Table) -> Result<(), Stop<BrokenRule>>
     requires { length (tables_in (get_member (codes "table") (table_view document.now))) ≤ unit_limit }
     ensures { Tests 31 (λ place. HoldsOf (tables_in (get_member (codes "table") (table_view document.now))) place

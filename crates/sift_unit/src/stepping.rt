@@ -193,7 +193,7 @@ impl Board {
             .account(mission, &self.cfg, self.unit, &self.clk);
         self.memory.turn_over(&self.cfg, self.unit, &account);
         self.cfg = account.next_cfg;
-        self.clk = copied(&account.next_clk);
+        self.clk = account.next_clk;
         self.accounts.push_reserved(account);
         self.frame += 1;
         self.subframe = 0;
@@ -201,11 +201,4 @@ impl Board {
         self.slot = 0;
         self.other = 0;
     }
-}
-
-/// The same number.
-fn copied(clk: &i64) -> i64
-    ensures { result ≡ clk.now }
-{
-    *clk
 }

@@ -1,13 +1,18 @@
 use Rattle.std.proofs.Common.{Some, map, subst, sym, ap, ◌∙◌}
 use Rattle.sift_line.specs.Bad.{IsToldBy, catch_text, catches_in}
 use Rattle.sift_line.specs.Part.{list_text}
-use Rattle.sift_line.proofs.Catches.{all_catches, catches_are, caught_again, few_catches}
+use Rattle.sift_line.proofs.Catches.{all_catches, catches_are, caught_again, few_catches, told_bad}
 use Rattle.sift_line.proofs.Results.{held, not_both}
 use Rattle.sift_line.proofs.catch.CatchesPart.read.Goals as goal
 
 pub returns-in_err-listed-clause-exact : goal.returns-in_err-listed-clause-exact
 returns-in_err-listed-clause-exact c = λ caught are e.
     let none = c.in_err-listed.ensures.exact (record { items = catches_in caught }) (all_catches caught are) (few_catches caught) (catches_are caught ∙ e) in (cc)
+
+pub returns-then-are_catches_in-clause-part : goal.returns-then-are_catches_in-clause-part
+returns-then-are_catches_in-clause-part c =
+    told_bad c.in_ok-listed.listed.items c.caught_by-caught.result c.in_ok-listed.ensures.part.0
+    (subst (λ list. IsToldBy list c.caught_by-caught.result) c.deref.ensures.0 c.caught_by-caught.ensures)
 
 pub returns-then-are_catches_in-clause-printed : goal.returns-then-are_catches_in-clause-printed
 returns-then-are_catches_in-clause-printed c =
