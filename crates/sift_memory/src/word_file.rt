@@ -68,6 +68,7 @@ impl WordFile {
         let before = carve(&mut pool, words);
         let voted = carve(&mut pool, words);
         let work = carve(&mut pool, WORK_WORDS);
+        // What is carved from here on is given back at each frame's end.
         let mark = pool.mark();
         let made = carve(&mut pool, words);
         store(&mut pool, &before, 0, starts);
@@ -180,6 +181,7 @@ impl WordFile {
     pub(crate) fn turn_over(&mut self, stays: bool)
         ensures { self.new ≡ next_words stays self.old }
     {
+        // There is room for one span of made words: this frame's goes before the next frame's is carved.
         self.pool.release(self.mark);
         self.made = None;
         let words = self.inputs.voted.len();

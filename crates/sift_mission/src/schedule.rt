@@ -208,6 +208,7 @@ impl Mission {
         ensures passed { (t : ℕ) → t < (flown_of self.now).tasks → from ≤ t → t < result → (flown_of self.now).run_in config.now t ≢ subframe }
         ensures found { result < (flown_of self.now).slots → (result < (flown_of self.now).tasks) × ((flown_of self.now).run_in config.now result ≡ subframe) }
     {
+        // A board counts slots and tasks by one number, so it may ask from behind the last task.
         let tasks = self.tasks();
         if from < tasks {
             let next = self.next_run(config, subframe, from);

@@ -171,6 +171,7 @@ impl Agenda {
     {
         let mut next = [count as u8; 90];
         let mut first = [count as u8; 256];
+        // From the last number to the first: `first` then has, of each time, the next number behind that has it.
         for i in (0..count).rev() {
             let time = usize::from(times[i]);
             next[i] = first[time];
@@ -201,6 +202,7 @@ impl Agenda {
         if from == 0 && time < 256 {
             return usize::from(self.first[time as usize]);
         }
+        // A board asks from behind what it has just done, so the link from there leads on.
         if from > 0 && u32::from(self.times[from - 1]) == time {
             return usize::from(self.next[from - 1]);
         }

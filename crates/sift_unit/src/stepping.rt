@@ -29,6 +29,7 @@ impl Board {
         ensures follows { T.follows port.old [] port.new }
     {
         if self.storm == Some(self.frame) {
+            // A unit whose storm comes later turned as its board came to this frame, so this is frame 0.
             if !self.turned {
                 self.turn_at_once(port);
             }

@@ -107,6 +107,7 @@ impl Board {
             self.next_part(mission);
             return;
         }
+        // Where `other` is past 0, the slot is heard or said now: there is nothing to jump over.
         if self.other == 0 {
             let due = mission.next_due(&self.cfg, self.subframe, self.part, self.slot);
             if due > self.slot {
