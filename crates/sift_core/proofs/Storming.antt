@@ -17,6 +17,7 @@ use Rattle.sift_buffer.specs.declared.rack.Rack.{Rack}
 use Rattle.sift_config.specs.laws.FirstUnits.{low_unit, unit_low}
 use Rattle.sift_rogue.specs.Storms.{Call, Started, Shoots, sifted, stray_of, StormsBy}
 use Rattle.sift_rogue.specs.declared.act.Shot.{Shot}
+use Rattle.sift_script.specs.declared.script.StormEntry.{StormEntry}
 use Rattle.sift_mission.specs.Data.{MissionData}
 use Rattle.sift_mission.specs.Flown.{flown}
 use Rattle.sift_flight.specs.Flight.{Strays, no_strays, IsRound}
@@ -83,7 +84,7 @@ module _ (d : MissionData) (x : Machine) (u : ℕ) (x' : Machine) (one : IsByOne
     made_same p r l l' ss ss' y y' ne el es ey k = let same = one.progress p ne in record {
       calm = λ e. ey ∙ k.calm e;
       before = λ t at up. let b = k.before t at (omega arith) in (ey ∙ b.0, es ∙ b.1);
-      after = λ t at down. storms_at p t.1 r (t.2 - l) (t.2 - l') ss ss' y y' (omega arith) es ey (k.after t at (omega arith));
+      after = λ t at down. storms_at p t.number r (t.strays - l) (t.strays - l') ss ss' y y' (omega arith) es ey (k.after t at (omega arith));
     }
 
     -- what all rogues were called for, where it is known of the one
@@ -106,7 +107,7 @@ module _ (d : MissionData) (x : Machine) (u : ℕ) (x' : Machine) (one : IsByOne
 -- ---- a step after which the unit has yet to land or turn, or has no storm
 
 module _ {R : Type 0} (allows : R → Call → R → Type 0) (d : MissionData) (u : ℕ) (x x' : Machine) (one : IsByOne x u x') (low : u < d.units)
-    (aloft : IsAloft (flown d) x u) (quiet : (t : ℕ × ℕ × ℕ) → storm_at d u ≡ Some t → IsAloft (flown d) x' u)
+    (aloft : IsAloft (flown d) x u) (quiet : (t : StormEntry) → storm_at d u ≡ Some t → IsAloft (flown d) x' u)
     (on : (w : Strays) → Flies (flown d) w x → Flies (flown d) w x') (ls : List ℕ) (ys : List R) where
   pub quiet_way : IsUnderWay d (course x ls ys) → IsUnderWay d (course x' ls ys)
   quiet_way way = record {
@@ -162,7 +163,7 @@ module _ {R : Type 0} (allows : R → Call → R → Type 0) (d : MissionData) (
     (on : (w : Strays) → Flies (flown d) w x → Flies (flown d) w x') (ls : List ℕ) (ys : List R) (ls' : List ℕ) (ys' : List R)
     (begun : BeginsStorm allows d u ys ls ys' ls') (way : IsUnderWay d (course x ls ys)) where
   abbrev started : R → R → Type 0
-  started r y = allows r (Started begun.storm.1) y
+  started r y = allows r (Started begun.storm.number) y
 
   begun_low : u < d.units
   begun_low = unit_low d.units u there
@@ -171,7 +172,7 @@ module _ {R : Type 0} (allows : R → Call → R → Type 0) (d : MissionData) (
   begun_few = unit_few d x u way.flies there
 
   -- all calls but `start` are left
-  begun_left : slice_index ls' u ≡ begun.storm.2
+  begun_left : slice_index ls' u ≡ begun.storm.strays
   begun_left =
       let all = (way.left.each u begun_low).before begun.storm begun.storm_is aloft in let long = way.left.long in
       let f = begun_few in let less = own_left started u ys ls ys' ls' begun.called (omega arith) in omega arith
@@ -186,7 +187,7 @@ module _ {R : Type 0} (allows : R → Call → R → Type 0) (d : MissionData) (
     left = left_by d x u x' one ls ls' (left_long started u ys ls ys' ls' begun.called) (others_left started u ys ls ys' ls' begun.called) way.left (record {
       calm = λ e. none_some (sym e ∙ begun.storm_is);
       before = λ t at up. absurd (not_up up);
-      after = λ t at down. (let same = ap (λ (z : ℕ × ℕ × ℕ). z.2) (same_Some _ _ (sym begun.storm_is ∙ at)) in let is = begun_left in omega arith, turned);
+      after = λ t at down. (let same = ap (λ (z : StormEntry). z.strays) (same_Some _ _ (sym begun.storm_is ∙ at)) in let is = begun_left in omega arith, turned);
     });
   }
 
@@ -206,11 +207,11 @@ module _ {R : Type 0} (allows : R → Call → R → Type 0) (d : MissionData) (
         after = λ t at down.
             let first = was.before begun.storm begun.storm_is aloft in let many = way.rogues in
             let now : slice_index_or ys' u r ≡ begun.called.after = own_rogue started u ys ls ys' ls' begun.called (let f = begun_few in omega arith) r in
-            subst (λ (z : ℕ × ℕ × ℕ). StormsBy allows (sifted (layout_of x') u) z.1 q (z.2 - slice_index ls' u) (k.strays u) (slice_index_or ys' u r))
+            subst (λ (z : StormEntry). StormsBy allows (sifted (layout_of x') u) z.number q (z.strays - slice_index ls' u) (k.strays u) (slice_index_or ys' u r))
             (same_Some _ _ (sym begun.storm_is ∙ at)) (record {
               begun = slice_index_or ys' u r;
-              start = subst (λ (z : R). allows q (Started begun.storm.1) z) (sym now)
-                  (subst (λ (z : R). allows z (Started begun.storm.1) begun.called.after) first.0 (begun.called.called r));
+              start = subst (λ (z : R). allows q (Started begun.storm.number) z) (sym now)
+                  (subst (λ (z : R). allows z (Started begun.storm.number) begun.called.after) first.0 (begun.called.called r));
               acts = [];
               count_is = (let is = begun_left in omega arith);
               answers = refl;
@@ -286,7 +287,7 @@ module _ {R : Type 0} (allows : R → Call → R → Type 0) (d : MissionData) (
             let made = spent.called.called r in let many = way.rogues in let f = spent_few in
             let now : slice_index_or s'.rogues u r ≡ spent.called.after =
             own_rogue spent_shot u s.rogues s.left s'.rogues s'.left spent.called (omega arith) r in
-            storms_at d s.machine u s'.machine spent_one allows u t.1 q (t.2 - slice_index s.left u + 1) (t.2 - slice_index s'.left u)
+            storms_at d s.machine u s'.machine spent_one allows u t.number q (t.strays - slice_index s.left u + 1) (t.strays - slice_index s'.left u)
             (spent_more ++ k.strays u) (with_strays k.strays u spent_more u) spent.called.after (slice_index_or s'.rogues u r)
             (let is = spent_less in omega arith) (strays_here k.strays u spent_more) now (record {
               begun = old.begun;
@@ -299,11 +300,11 @@ module _ {R : Type 0} (allows : R → Call → R → Type 0) (d : MissionData) (
       }
 
 -- a storm's frame is that of the mission's script
-frame_of : (o : Option (ℕ × ℕ × ℕ)) (from : ℕ) → option_map (λ (s : ℕ × ℕ × ℕ). s.0) o ≡ Some from → (t : ℕ × ℕ × ℕ) × (o ≡ Some t)
+frame_of : (o : Option StormEntry) (from : ℕ) → option_map (λ (s : StormEntry). s.from) o ≡ Some from → (t : StormEntry) × (o ≡ Some t)
 frame_of None from e = none_some e
 frame_of (Some t) from e = (t, refl)
 
-no_frame : (o : Option (ℕ × ℕ × ℕ)) → option_map (λ (s : ℕ × ℕ × ℕ). s.0) o ≡ None → o ≡ None
+no_frame : (o : Option StormEntry) → option_map (λ (s : StormEntry). s.from) o ≡ None → o ≡ None
 no_frame None e = refl
 no_frame (Some t) e = none_some (sym e)
 
@@ -327,7 +328,7 @@ module _ {R : Type 0} (allows : R → Call → R → Type 0) (d : MissionData) (
   step_one : (a : Stepped) → StepsUnit (flown d) u x a x' → IsByOne x u x'
   step_one a stepped = record { layout = stepped.layout; progress = others_progress (flown d) x u a x' way.flies flying there stepped }
 
-  step_quiet : (a : Stepped) → StepsUnit (flown d) u x a x' → ((t : ℕ × ℕ × ℕ) → storm_at d u ≡ Some t → IsAloft (flown d) x' u) →
+  step_quiet : (a : Stepped) → StepsUnit (flown d) u x a x' → ((t : StormEntry) → storm_at d u ≡ Some t → IsAloft (flown d) x' u) →
       GoesOn allows d (course x ls ys) (course x' ls ys)
   step_quiet a stepped up = record {
     layout = stepped.layout;
@@ -349,7 +350,7 @@ module _ {R : Type 0} (allows : R → Call → R → Type 0) (d : MissionData) (
       (λ t at. none_some (sym (no_frame (storm_at d u) (step_comes (flown d) x u Landed x' way.flies flying there stepped aloft)) ∙ at))
 
   -- a unit that turned has a storm, of which all calls are left
-  pub has_storm : StepsUnit (flown d) u x Turned x' → (t : ℕ × ℕ × ℕ) × (storm_at d u ≡ Some t)
+  pub has_storm : StepsUnit (flown d) u x Turned x' → (t : StormEntry) × (storm_at d u ≡ Some t)
   has_storm stepped = let comes = step_comes (flown d) x u Turned x' way.flies flying there stepped aloft in frame_of (storm_at d u) comes.1.0 comes.1.1
 
   -- where the unit turned, calls of its rogue were left before the step
@@ -372,10 +373,10 @@ module _ {R : Type 0} (allows : R → Call → R → Type 0) (d : MissionData) (
 module _ (d : MissionData) (x : Machine) (flies : Flies (flown d) no_strays x) (fresh : (u : ℕ) → progress_at x u ≡ 0) (ls : List ℕ)
     (all : AreAllLeft d ls) where
   -- a unit with a storm has yet to land
-  up : (u : ℕ) (t : ℕ × ℕ × ℕ) → storm_at d u ≡ Some t → 0 < end_in (flown d)
+  up : (u : ℕ) (t : StormEntry) → storm_at d u ≡ Some t → 0 < end_in (flown d)
   up u t at =
       let can = flyable (flown d) x (no_strays, flies) in
-      let come = can.storms u t.0 (ap (option_map (λ (s : ℕ × ℕ × ℕ). s.0)) at) in let period = can.fits.counted.period in
+      let come = can.storms u t.from (ap (option_map (λ (s : StormEntry). s.from)) at) in let period = can.fits.counted.period in
       let some : 1 * 1 ≤ d.frames * d.period = mul-le 1 1 d.frames d.period (omega arith) (omega arith) in omega arith
 
   -- the calls that are left are those of a flight under way: all of each storm, and no others
@@ -415,8 +416,8 @@ round_by_rogues allows d xs s fl k done layout round = record {
   long = k.called.long;
   storms = λ u r t low at.
       let end = done u (low_unit d.units u low) in
-      subst (λ (l : Layout). StormsBy allows (sifted l u) t.1 (slice_index_or xs u r) t.2 (k.strays u) (slice_index_or s.rogues u r)) layout
-      (subst (λ (n : ℕ). StormsBy allows (sifted (layout_of s.machine) u) t.1 (slice_index_or xs u r) n (k.strays u) (slice_index_or s.rogues u r))
+      subst (λ (l : Layout). StormsBy allows (sifted l u) t.number (slice_index_or xs u r) t.strays (k.strays u) (slice_index_or s.rogues u r)) layout
+      (subst (λ (n : ℕ). StormsBy allows (sifted (layout_of s.machine) u) t.number (slice_index_or xs u r) n (k.strays u) (slice_index_or s.rogues u r))
       (let none = end.1 in omega arith) ((k.called.each u r low).after t at end.0));
   calm = λ u r low none. (k.called.each u r low).calm none;
   beyond = k.called.beyond;
@@ -426,7 +427,7 @@ round_by_rogues allows d xs s fl k done layout round = record {
 pub spender_turned : (d : MissionData) (x : Machine) (u left : ℕ) → IsLeft d x u left → 0 < left → IsDown (flown d) x u → HasTurnedIn x u
 spender_turned d x u left k some down = by_storm (storm_at d u) refl
   where
-    by_storm : (o : Option (ℕ × ℕ × ℕ)) → storm_at d u ≡ o → HasTurnedIn x u
+    by_storm : (o : Option StormEntry) → storm_at d u ≡ o → HasTurnedIn x u
     by_storm None is = absurd (let none = k.calm is in omega arith)
     by_storm (Some t) is = (k.after t is down).1
 

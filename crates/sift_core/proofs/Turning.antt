@@ -63,7 +63,7 @@ module _ {R : Type 0} (allows : R → Call → R → Type 0) (d : MissionData) w
     step_nearer Turned stepped begun aloft goes =
         let near = step_near m s.machine u Turned s'.machine way.flies way'.flies there stepped aloft in
         let some = (way.left.each u (unit_low d.units u there)).before begun.storm begun.storm_is aloft in
-        let less = one_less (λ x y. allows x (Started begun.storm.1) y) u s s' way there (omega arith) begun.called in omega arith
+        let less = one_less (λ x y. allows x (Started begun.storm.number) y) u s s' way there (omega arith) begun.called in omega arith
     step_nearer Landed stepped begun aloft goes =
         let near = step_near m s.machine u Landed s'.machine way.flies way'.flies there stepped aloft in let same = ap total begun.left in omega arith
 

@@ -5,6 +5,7 @@ use Rattle.sift_base.specs.Units.{unit_limit}
 use Rattle.sift_mission.specs.Data.{MissionData}
 use Rattle.sift_mission.specs.Flown.{flown}
 use Rattle.sift_script.specs.Faults.{storm_of}
+use Rattle.sift_script.specs.declared.script.StormEntry.{StormEntry}
 use Rattle.sift_rogue.specs.declared.act.Shot.{Shot}
 use Rattle.sift_rogue.specs.Storms.{Call, Started, Shoots, sifted, stray_of}
 use Rattle.sift_unit.specs.declared.stepped.Stepped.{Stepped}
@@ -23,13 +24,13 @@ abbrev pub course : {R : Type 0} → Machine → List ℕ → List R → Course 
 course x left rogues = record { machine = x; left = left; rogues = rogues }
 
 -- the storm of a unit, if it has one: the frame from which on it is stray, the number by which its storm begins, and how many strays it has
-abbrev pub storm_at : MissionData → ℕ → Option (ℕ × ℕ × ℕ)
+abbrev pub storm_at : MissionData → ℕ → Option StormEntry
 storm_at d u = storm_of d.script.faults u
 
 -- how many calls a storm has: `start`, and `next` for each stray
-abbrev pub calls_of : Option (ℕ × ℕ × ℕ) → ℕ
+abbrev pub calls_of : Option StormEntry → ℕ
 calls_of None = 0
-calls_of (Some storm) = storm.2 + 1
+calls_of (Some storm) = storm.strays + 1
 
 -- no call of any storm was made: all are left
 pub record AreAllLeft (d : MissionData) (left : List ℕ) : Type 0 where
@@ -55,9 +56,9 @@ pub record IsCalled {R : Type 0} (by : R → R → Type 0) (u : ℕ) (xs : List 
 module _ {R : Type 0} (allows : R → Call → R → Type 0) where
   -- the storm of unit u began: its rogue was called by the number of its storm
   pub record BeginsStorm (d : MissionData) (u : ℕ) (xs : List R) (left : List ℕ) (ys : List R) (left' : List ℕ) : Type 0 where
-    pub storm : ℕ × ℕ × ℕ
+    pub storm : StormEntry
     pub storm_is : storm_at d u ≡ Some storm
-    pub called : IsCalled (λ x y. allows x (Started storm.1) y) u xs left ys left'
+    pub called : IsCalled (λ x y. allows x (Started storm.number) y) u xs left ys left'
 
   -- what a step's answer tells of rogues: where the unit turned its storm began, and else no rogue was called
   abbrev pub Begins : MissionData → ℕ → Stepped → Course R → Course R → Type 0

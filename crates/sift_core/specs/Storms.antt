@@ -5,6 +5,7 @@ use Rattle.sift_buffer.specs.Conduct.{Stray}
 use Rattle.sift_mission.specs.Data.{MissionData}
 use Rattle.sift_mission.specs.Flown.{flown}
 use Rattle.sift_rogue.specs.Storms.{Call, Storms, sifted}
+use Rattle.sift_script.specs.declared.script.StormEntry.{StormEntry}
 use Rattle.sift_flight.specs.Flight.{Strays, IsRound}
 use Rattle.sift_flight.specs.Told.{told}
 use Rattle.sift_flight.specs.declared.flight.Flight.{Flight}
@@ -19,8 +20,8 @@ use Rattle.sift_core.specs.declared.machine.Machine.{Machine}
 -- `next` for each stray that it has not spent
 pub record IsLeft (d : MissionData) (x : Machine) (u left : ℕ) : Type 0 where
   pub calm : storm_at d u ≡ None → left ≡ 0
-  pub before : (storm : ℕ × ℕ × ℕ) → storm_at d u ≡ Some storm → IsAloft (flown d) x u → left ≡ storm.2 + 1
-  pub after : (storm : ℕ × ℕ × ℕ) → storm_at d u ≡ Some storm → IsDown (flown d) x u → (left ≤ storm.2) × HasTurnedIn x u
+  pub before : (storm : StormEntry) → storm_at d u ≡ Some storm → IsAloft (flown d) x u → left ≡ storm.strays + 1
+  pub after : (storm : StormEntry) → storm_at d u ≡ Some storm → IsDown (flown d) x u → (left ≤ storm.strays) × HasTurnedIn x u
 
 -- so many are left of each unit
 pub record AreLeft (d : MissionData) (x : Machine) (left : List ℕ) : Type 0 where
@@ -38,9 +39,9 @@ module _ {R : Type 0} (allows : R → Call → R → Type 0) where
   -- where the unit has no storm, or has yet to turn, and else all other calls of its storm were made
   pub record HasMadeCalls (d : MissionData) (m : Machine) (u : ℕ) (x : R) (left : ℕ) (strays : List Stray) (y : R) : Type 0 where
     pub calm : storm_at d u ≡ None → y ≡ x
-    pub before : (storm : ℕ × ℕ × ℕ) → storm_at d u ≡ Some storm → IsAloft (flown d) m u → (y ≡ x) × (strays ≡ [])
-    pub after : (storm : ℕ × ℕ × ℕ) → storm_at d u ≡ Some storm → IsDown (flown d) m u →
-        Storms allows (sifted (layout_of m) u) (record { number = storm.1; count = storm.2 - left; strays = strays }) x y
+    pub before : (storm : StormEntry) → storm_at d u ≡ Some storm → IsAloft (flown d) m u → (y ≡ x) × (strays ≡ [])
+    pub after : (storm : StormEntry) → storm_at d u ≡ Some storm → IsDown (flown d) m u →
+        Storms allows (sifted (layout_of m) u) (record { number = storm.number; count = storm.strays - left; strays = strays }) x y
 
   -- so did each unit's rogue, and those beyond the units are as they were
   pub record HaveMadeCalls (d : MissionData) (xs : List R) (w : Strays) (s : Course R) : Type 0 where
@@ -67,7 +68,7 @@ module _ {R : Type 0} (allows : R → Call → R → Type 0) where
     pub strays : Strays
     pub round : IsRound (flown d) strays (told (flown d) fl)
     pub long : length ys ≡ length xs
-    pub storms : (u : ℕ) (r : R) (storm : ℕ × ℕ × ℕ) → u < d.units → storm_at d u ≡ Some storm →
-        Storms allows (sifted d.layout u) (record { number = storm.1; count = storm.2; strays = strays u }) (slice_index_or xs u r) (slice_index_or ys u r)
+    pub storms : (u : ℕ) (r : R) (storm : StormEntry) → u < d.units → storm_at d u ≡ Some storm →
+        Storms allows (sifted d.layout u) (record { number = storm.number; count = storm.strays; strays = strays u }) (slice_index_or xs u r) (slice_index_or ys u r)
     pub calm : (u : ℕ) (r : R) → u < d.units → storm_at d u ≡ None → slice_index_or ys u r ≡ slice_index_or xs u r
     pub beyond : (u : ℕ) (r : R) → d.units ≤ u → slice_index_or ys u r ≡ slice_index_or xs u r

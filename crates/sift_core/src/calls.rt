@@ -60,7 +60,7 @@ fn calls_of(mission: &Mission, u: UnitId) -> u64
     ensures { result ≡ calls_of (storm_at (data_of mission.now) u) }
 {
     match mission.parts().script.storm_of(u) {
-        Some((_, _, strays)) => u64::from(strays) + 1,
+        Some(storm) => u64::from(storm.strays) + 1,
         None => 0,
     }
 }

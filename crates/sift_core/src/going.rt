@@ -7,6 +7,7 @@ ghost use Rattle.sift_buffer.specs.Tables.{ranges_of};
 ghost use Rattle.sift_mission.specs.Data.{FlownMission};
 ghost use Rattle.sift_mission.specs.Parts.{data_of, flown_of};
 ghost use Rattle.sift_rogue.specs.Storms.{Shoots, sifted, stray_of};
+ghost use Rattle.sift_script.specs.declared.script.StormEntry.{StormEntry};
 ghost use Rattle.sift_flight.specs.Flight.{Strays};
 ghost use Rattle.sift_buffer.specs.Crews.{with_strays};
 ghost use Rattle.sift_buffer.specs.Racks.{ranges_for};
@@ -90,13 +91,13 @@ impl Machine {
 
 /// Calls the rogue of a unit to begin its storm.
 fn begin_storm<R: Rogue>(mission: &Mission, rogues: &mut [R], left: &mut CallsLeft, u: UnitId)
-    requires storm { (storm : ℕ × ℕ × ℕ) × (storm_at (data_of mission.now) u ≡ Some storm) }
+    requires storm { (storm : StormEntry) × (storm_at (data_of mission.now) u ≡ Some storm) }
     requires rogues { length rogues.old ≡ unit_limit }
     requires some { 0 < slice_index left.old u }
     ensures { BeginsStorm R.allows (data_of mission.now) u rogues.old left.old rogues.new left.new }
 {
-    if let Some((_, number, _)) = mission.parts().script.storm_of(u) {
-        rogues[usize::from(u.get())].start(number);
+    if let Some(storm) = mission.parts().script.storm_of(u) {
+        rogues[usize::from(u.get())].start(storm.number);
         left.take_one(u);
         return;
     }

@@ -12,7 +12,8 @@ use crate::line::ReportLine;
 use sift_base::Word;
 
 impl ReportLine {
-    /// Each field of a line holds what it can.
+    /// Each field of a line holds what it can. Words and ticks are known to be in range where they are read, so all of them are
+    /// read here. Of a line that was read back its readers tell this, part by part.
     pub fn holds_its_fields(&self)
         ensures { IsLine self.now }
     {

@@ -4,6 +4,7 @@ use Rattle.std.proofs.lemmas.Bool.{cases_lt, le-leb, le-ltb, lt-leb, lt-ltb}
 use Rattle.sift_base.specs.laws.Ranges.{has-range}
 use Rattle.sift_script.specs.Faults as faults
 use Rattle.sift_script.specs.Laws.{FaultsAreForGood, OneUnitIsSteady, StormsComeInTheMission, WorkingUnitsHaveNotTurned, WorkingUnitsSayTheirWords}
+use Rattle.sift_script.specs.declared.script.StormEntry.{StormEntry}
 use Rattle.sift_table.specs.Laws.{WordsHaveTheirTask}
 use Rattle.sift_mission.specs.Data.{MissionData}
 use Rattle.sift_mission.specs.Flown.{flown}
@@ -14,15 +15,15 @@ use Rattle.sift_mission.proofs.FitTasks.{program-is}
 use Rattle.sift_mission.proofs.Rows.{drift-low, error-low, errors-low, start-low}
 
 -- a storm has come where its first frame has
-turned-is : (storm : Option (ℕ × ℕ × ℕ)) (f : ℕ) → turned_by (option_map (λ s. s.0) storm) f ≡ faults.has_come storm f
+turned-is : (storm : Option StormEntry) (f : ℕ) → turned_by (option_map (λ s. s.from) storm) f ≡ faults.has_come storm f
 turned-is None f = refl
-turned-is (Some storm) f = elim (cases_lt f storm.0) [
-  | inl before ↦ rw (lt-ltb f storm.0 before, lt-leb storm.0 f before) refl
-  | inr from ↦ rw (le-ltb f storm.0 from, le-leb storm.0 f from) refl
+turned-is (Some storm) f = elim (cases_lt f storm.from) [
+  | inl before ↦ rw (lt-ltb f storm.from before, lt-leb storm.from f before) refl
+  | inr from ↦ rw (le-ltb f storm.from from, le-leb storm.from f from) refl
 ]
 
 -- the first frame of a storm, and the storm
-first-frame : (storm : Option (ℕ × ℕ × ℕ)) (from : ℕ) → option_map (λ s. s.0) storm ≡ Some from → (s : ℕ × ℕ × ℕ) × (storm ≡ Some s) × (s.0 ≡ from)
+first-frame : (storm : Option StormEntry) (from : ℕ) → option_map (λ s. s.from) storm ≡ Some from → (s : StormEntry) × (storm ≡ Some s) × (s.from ≡ from)
 first-frame None from is = absurd cc
 first-frame (Some s) from is = (s, refl, cc)
 
@@ -30,7 +31,7 @@ first-frame (Some s) from is = (s, refl, cc)
 pub storms-come : (d : MissionData) → PartsFit d → StormsComeInTheMission → StormsCome (flown d)
 storms-come d fit come u from is =
     let t = first-frame (faults.storm_of d.script.faults u) from is in
-    omega (arith, fit.script.frames, t.2, come d.script u t.0.0 t.0.1 t.0.2 fit.script.good t.1)
+    omega (arith, fit.script.frames, t.2, come d.script u t.0 fit.script.good t.1)
 
 module _ (d : MissionData) (fit : PartsFit d) where
   -- the script is such as flights stand on

@@ -15,6 +15,6 @@ pub flight_of :
     → IsRoundByRogues allows d xs flight ys → IsFlightOf (AreGiven allows xs) d (told (flown d) flight)
 flight_of allows d xs ys flight round = record {
   strays = round.strays;
-  given_are = λ u from number count rogue low storm. (slice_index_or ys u rogue, round.storms u rogue (from, number, count) low storm);
+  given_are = λ u storm rogue low is. (slice_index_or ys u rogue, round.storms u rogue storm low is);
   round = round.round;
 }

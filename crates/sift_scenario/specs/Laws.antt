@@ -13,6 +13,7 @@ use Rattle.sift_mission.specs.Data.{MissionData}
 use Rattle.sift_mission.specs.PartsFit.{PartsFit}
 use Rattle.sift_script.specs.Faults.{storm_of}
 use Rattle.sift_script.specs.Script.{turning}
+use Rattle.sift_script.specs.declared.script.StormEntry.{StormEntry}
 
 -- a document that states a mission isn't refused
 abbrev pub MissionsAreAccepted : Type 0
@@ -30,21 +31,21 @@ OneMission = (document : Members) (one other : MissionData) → IsMission docume
 abbrev pub StatedMissionsFit : Type 0
 StatedMissionsFit = (document : Members) (mission : MissionData) → IsMission document mission → PartsFit mission
 
--- the fault is a storm of this unit: it comes in this frame, begins by this number, and has so many strays
-pub record IsStormOf (u from number strays : ℕ) (fault : Members) : Type 0 where
+-- the fault is this storm of this unit: it comes in the storm's first frame, begins by its number, and has as many strays
+pub record IsStormOf (u : ℕ) (storm : StormEntry) (fault : Members) : Type 0 where
   pub unit : unit_of fault ≡ Some u
-  pub comes : from_of fault ≡ Some from
-  pub storm : stated_storm fault ≡ Some (Some (turning number strays))
+  pub comes : from_of fault ≡ Some storm.from
+  pub turns : stated_storm fault ≡ Some (Some (turning storm.number storm.strays))
 
 -- one of the faults of the document is such a storm
-abbrev pub StatesStorm : (document : Members) (u from number strays : ℕ) → Type 0
-StatesStorm document u from number strays =
-    (place : ℕ) × HoldsOf (tables_in (get_member (codes "fault") document)) place (IsStormOf u from number strays)
+abbrev pub StatesStorm : (document : Members) (u : ℕ) (storm : StormEntry) → Type 0
+StatesStorm document u storm =
+    (place : ℕ) × HoldsOf (tables_in (get_member (codes "fault") document)) place (IsStormOf u storm)
 
 -- the storms of the mission that a document states are those that the document states
 abbrev pub StormsAreStated : Type 0
-StormsAreStated = (document : Members) (mission : MissionData) (u from number strays : ℕ) → IsMission document mission →
-    (storm_of mission.script.faults u ≡ Some (from, number, strays)) ↔ StatesStorm document u from number strays
+StormsAreStated = (document : Members) (mission : MissionData) (u : ℕ) (storm : StormEntry) → IsMission document mission →
+    (storm_of mission.script.faults u ≡ Some storm) ↔ StatesStorm document u storm
 
 -- a document of version 1 sheds nothing: no table of its mission leaves out a task
 abbrev pub VersionOneShedsNothing : Type 0

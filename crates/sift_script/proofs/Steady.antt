@@ -10,6 +10,7 @@ use Rattle.std.specs.Prelude.{◌==◌, ◌&&◌, nat_le, if◌then◌else◌, o
 use Rattle.sift_base.specs.Units.{has}
 use Rattle.sift_script.specs.Faults.{changes_in, fault_of_unit, has_come, replacement_by, storm_from, works}
 use Rattle.sift_script.specs.Laws.{FaultsAreForGood, OneUnitIsSteady, StormsComeInTheMission, WorkingUnitsHaveNotTurned, WorkingUnitsSayTheirWords}
+use Rattle.sift_script.specs.declared.script.StormEntry.{StormEntry}
 use Rattle.sift_script.specs.Rules.{IsGood}
 use Rattle.sift_script.specs.Script.{Failing, Fault, FaultScript, changing, turning}
 use Rattle.sift_script.proofs.Views.{no_fault}
@@ -115,17 +116,17 @@ comes_below (fault ∷ faults) u frames d each = elim (cases_Bool (eqb fault.uni
 ]
 
 -- the storm of a fault comes when the fault does
-storm_comes : (fault : Option Fault) (frames from number strays : ℕ) → IfSome fault (λ f. f.from < frames) →
-    option_and_then (λ f. storm_from f.from f.plan) fault ≡ Some (from, number, strays) → from < frames
-storm_comes None frames from number strays below is = absurd (none-some _ is)
-storm_comes (Some fault) frames from number strays below is = of_plan fault.plan below is
+storm_comes : (fault : Option Fault) (frames : ℕ) (storm : StormEntry) → IfSome fault (λ f. f.from < frames) →
+    option_and_then (λ f. storm_from f.from f.plan) fault ≡ Some storm → storm.from < frames
+storm_comes None frames storm below is = absurd (none-some _ is)
+storm_comes (Some fault) frames storm below is = of_plan fault.plan below is
   where
-    of_plan : (plan : Failing) → fault.from < frames → storm_from fault.from plan ≡ Some (from, number, strays) → from < frames
+    of_plan : (plan : Failing) → fault.from < frames → storm_from fault.from plan ≡ Some storm → storm.from < frames
     of_plan (changing changes) low is' = absurd (none-some _ is')
-    of_plan (turning n s) low is' = let same : fault.from ≡ from = ap (λ storm. storm.0) (same_Some _ _ is') in omega (arith, same, low)
+    of_plan (turning n s) low is' = let same : fault.from ≡ storm.from = ap (λ (s : StormEntry). s.from) (same_Some _ _ is') in omega (arith, same, low)
 
 -- in a good script each storm comes in a frame of the mission
 pub storms_come_in_the_mission : StormsComeInTheMission
-storms_come_in_the_mission script u from number strays good is =
-    storm_comes (fault_of_unit script.faults u) script.frames from number strays
+storms_come_in_the_mission script u storm good is =
+    storm_comes (fault_of_unit script.faults u) script.frames storm
     (comes_below script.faults u script.frames no_fault (λ at low. (good at low).1.1.0)) is

@@ -8,6 +8,7 @@ use Rattle.sift_base.specs.declared.slot.Slot.TheVariants as slot
 use Rattle.sift_script.specs.Script.{Failing, Fault, changing, turning, Change, FaultScript}
 use Rattle.sift_script.specs.declared.script.SlotKind.{SlotKind}
 use Rattle.sift_script.specs.declared.script.SlotKind.TheVariants.{Clock, Sense, Relay, Out, Report, RelayReport}
+use Rattle.sift_script.specs.declared.script.StormEntry.{StormEntry}
 
 -- ---- faulty and working
 
@@ -21,19 +22,19 @@ works faults u f = not (list_any (λ fault. (fault.unit == u) && nat_le fault.fr
 abbrev pub fault_of_unit : List Fault → ℕ → Option Fault
 fault_of_unit faults u = find (λ fault. fault.unit == u) faults
 
--- the storm by which a unit turns from a frame on: that frame, the number that strays are drawn from, and how many
-abbrev pub storm_from : ℕ → Failing → Option (ℕ × ℕ × ℕ)
+-- the storm by which a unit turns from a frame on
+abbrev pub storm_from : ℕ → Failing → Option StormEntry
 storm_from from (changing changes) = None
-storm_from from (turning number strays) = Some (from, number, strays)
+storm_from from (turning number strays) = Some (record { from = from; number = number; strays = strays })
 
 -- the storm of unit u, if it has one
-abbrev pub storm_of : List Fault → ℕ → Option (ℕ × ℕ × ℕ)
+abbrev pub storm_of : List Fault → ℕ → Option StormEntry
 storm_of faults u = option_and_then (λ fault. storm_from fault.from fault.plan) (fault_of_unit faults u)
 
 -- the storm, if there is one, has come by frame f
-abbrev pub has_come : Option (ℕ × ℕ × ℕ) → ℕ → Bool
+abbrev pub has_come : Option StormEntry → ℕ → Bool
 has_come None f = false
-has_come (Some storm) f = nat_le storm.0 f
+has_come (Some storm) f = nat_le storm.from f
 
 -- unit u has turned by frame f: it has a storm, and that has come
 abbrev pub has_turned : List Fault → ℕ → ℕ → Bool

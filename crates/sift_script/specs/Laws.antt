@@ -5,6 +5,7 @@ use Rattle.sift_base.specs.declared.slot.Slot.{Slot}
 use Rattle.sift_script.specs.Faults.{is_same_slot, override_of, has_turned, storm_of, works}
 use Rattle.sift_script.specs.Rules.{IsFirstBroken, IsGood}
 use Rattle.sift_script.specs.Script.{Fault, FaultScript, outputs_of}
+use Rattle.sift_script.specs.declared.script.StormEntry.{StormEntry}
 
 -- in a good script for some units, one unit of the mission works in every frame
 abbrev pub OneUnitIsSteady : Type 0
@@ -27,7 +28,7 @@ WorkingUnitsHaveNotTurned = (faults : List Fault) (u f : ℕ) → works faults u
 -- in a good script a storm comes in a frame of the mission
 abbrev pub StormsComeInTheMission : Type 0
 StormsComeInTheMission =
-    (script : FaultScript) (u from number strays : ℕ) → IsGood script → storm_of script.faults u ≡ Some (from, number, strays) → from < script.frames
+    (script : FaultScript) (u : ℕ) (storm : StormEntry) → IsGood script → storm_of script.faults u ≡ Some storm → storm.from < script.frames
 
 -- slots are compared whole: two are the same where they are one
 abbrev pub SlotsAreComparedWhole : Type 0

@@ -11,7 +11,7 @@ ghost use Rattle.sift_script.specs.Parts.{script_of};
 
 use crate::parts::{Parts, first_words};
 use crate::rules;
-use crate::script::{Plan, Script, items_of};
+use crate::script::{Plan, Script, StormEntry, items_of};
 use arrayvec::ArrayVec;
 use sift_base::{Layout, Shapes, Slot, UnitId, Word};
 use std::marker::Model;
@@ -68,14 +68,17 @@ impl GoodScript {
             .replacement(&self.first_words, items, f, slot, to)
     }
 
-    /// The storm of a unit, where it has one: the frame before which it turns stray, the number that its strays are
-    /// drawn from, and how many there are.
-    pub fn storm_of(&self, u: UnitId) -> Option<(u32, u64, u32)>
+    /// The storm of a unit, where it has one.
+    pub fn storm_of(&self, u: UnitId) -> Option<StormEntry>
         ensures { result ≡ storm_of self.now.faults u }
     {
         let entry = self.parts.entry_of(u)?;
         match entry.plan {
-            Plan::Storm { number, strays } => Some((entry.from, number, strays)),
+            Plan::Storm { number, strays } => Some(StormEntry {
+                from: entry.from,
+                number,
+                strays,
+            }),
             Plan::Say(_) => None,
         }
     }

@@ -15,4 +15,4 @@ pub use laws::{
     slots_are_compared_whole, storms_come_in_the_mission, words_are_numbered_alike,
     working_units_have_not_turned, working_units_say_their_words,
 };
-pub use script::{Entry, Item, Plan, Script, SlotKind};
+pub use script::{Entry, Item, Plan, Script, SlotKind, StormEntry};

@@ -38,6 +38,17 @@ pub enum Plan {
     },
 }
 
+/// The storm of a unit, as its entry says it.
+#[derive(Clone, Copy)]
+pub struct StormEntry {
+    /// The first frame in which the unit is stray.
+    pub from: u32,
+    /// The number from which the strays are drawn.
+    pub number: u64,
+    /// How many strays there are.
+    pub strays: u32,
+}
+
 /// What a faulty unit says to some receivers in a slot, in place of its own word.
 #[derive(Drop)]
 pub struct Item {

@@ -5,6 +5,7 @@ use Rattle.sift_buffer.specs.Conduct.{Conduct, Stray}
 use Rattle.sift_buffer.specs.Views.{View}
 use Rattle.sift_rogue.specs.Storms.{Call, StormsBy}
 use Rattle.sift_rogue.specs.declared.act.Act.{Act}
+use Rattle.sift_script.specs.declared.script.StormEntry.{StormEntry}
 use Rattle.sift_mission.specs.Parts.{data_of}
 use Rattle.sift_mission.specs.declared.parts.MissionParts.{MissionParts}
 use Rattle.sift_conduct.specs.Conduct.{account_of}
@@ -52,14 +53,14 @@ module _ {T R : Type 0} (view : T → View) (follows : T → List Stray → T �
   calm None up none = let flew = came.flies up in record { progress = (done.landed up).0; strays = strays_are ∙ flew.1; rogue = flew.0 }
   calm (Some left) some none = absurd (none_some none (straying left some).storm_is)
 
-  stormed : (o : Option ℕ) → y.left ≡ o → (storm : ℕ × ℕ × ℕ) → storm_of y ≡ Some storm → HasStrayed allows (data_at y) y.unit storm x.rogue c y.rogue
+  stormed : (o : Option ℕ) → y.left ≡ o → (storm : StormEntry) → storm_of y ≡ Some storm → HasStrayed allows (data_at y) y.unit storm x.rogue c y.rogue
   stormed None up storm is = absurd (none_some (done.landed up).1 is)
-  stormed (Some left) some storm is = let zero = done.spent left some in let all : storm.2 - left ≡ storm.2 = omega arith in record {
+  stormed (Some left) some storm is = let zero = done.spent left some in let all : storm.strays - left ≡ storm.strays = omega arith in record {
     progress = (straying left some).number;
     rogue =
-        subst (λ (ss : List Stray). StormsBy allows (sifted_at y) storm.1 x.rogue storm.2 ss y.rogue) (sym strays_are)
-        (subst (λ (s : Act → Option Stray). StormsBy allows s storm.1 x.rogue storm.2 came.strays y.rogue) (sym (sifted_same x y came.mission came.unit))
-        (subst (λ (n : ℕ). StormsBy allows (sifted_at x) storm.1 x.rogue n came.strays y.rogue) all
+        subst (λ (ss : List Stray). StormsBy allows (sifted_at y) storm.number x.rogue storm.strays ss y.rogue) (sym strays_are)
+        (subst (λ (s : Act → Option Stray). StormsBy allows s storm.number x.rogue storm.strays came.strays y.rogue) (sym (sifted_same x y came.mission came.unit))
+        (subst (λ (n : ℕ). StormsBy allows (sifted_at x) storm.number x.rogue n came.strays y.rogue) all
         (came.turned left storm some (sym same_storm ∙ is))));
   }
 

@@ -4,6 +4,7 @@ use Rattle.sift_buffer.specs.Conduct.{Stray, never}
 use Rattle.sift_buffer.specs.Views.{View}
 use Rattle.sift_rogue.specs.Storms.{Call, Started, StormsAddUp, Shoots, sifted, stray_of, StormsBy}
 use Rattle.sift_rogue.specs.declared.act.Act.{Act}
+use Rattle.sift_script.specs.declared.script.StormEntry.{StormEntry}
 use Rattle.sift_mission.specs.Data.{FlownMission}
 use Rattle.sift_mission.specs.Parts.{data_of}
 use Rattle.sift_unit.specs.Boards.{desk_of, Drives}
@@ -92,14 +93,14 @@ module _ {T R : Type 0} (view : T → View) (x : Seat T R) (man : IsManned view 
   done_landed tells = record {
     landed = λ none. (
       (let most = landed_low tells in let least = above_end m b (view p) drives tells.flies tells.ended in omega arith),
-      none_of (λ (storm : ℕ × ℕ × ℕ). storm.0) (storm_of x) (ap m.storm (sym (unit_is Landed tells)) ∙ tells.calm),
+      none_of (λ (storm : StormEntry). storm.from) (storm_of x) (ap m.storm (sym (unit_is Landed tells)) ∙ tells.calm),
     );
     spent = λ left some. absurd (none_some up some);
   }
 
   -- who turned has a storm
-  pub storm_turned : Tells Turned → (storm : ℕ × ℕ × ℕ) × (storm_of x ≡ Some storm)
-  storm_turned tells = some_of (λ (storm : ℕ × ℕ × ℕ). storm.0) (storm_of x) b.frame (ap m.storm (sym (unit_is Turned tells)) ∙ tells.storm)
+  pub storm_turned : Tells Turned → (storm : StormEntry) × (storm_of x ≡ Some storm)
+  storm_turned tells = some_of (λ (storm : StormEntry). storm.from) (storm_of x) b.frame (ap m.storm (sym (unit_is Turned tells)) ∙ tells.storm)
 
   left_turned : Tells Turned → (view p).conduct.left < never
   left_turned tells = let low = aloft.low in let most = end_low m man.drives.fits in ⊎_elim
@@ -118,7 +119,7 @@ module _ {T R : Type 0} (view : T → View) (x : Seat T R) (man : IsManned view 
         number = tells.number;
         storm = begins.storm;
         storm_is = begins.storm_is;
-        few = (let e : Some begins.storm.2 ≡ Some left = sym begins.left ∙ some in let same : begins.storm.2 ≡ left = cc in omega arith);
+        few = (let e : Some begins.storm.strays ≡ Some left = sym begins.left ∙ some in let same : begins.storm.strays ≡ left = cc in omega arith);
       };
     }
 
@@ -153,11 +154,11 @@ module _ {T R : Type 0} (view : T → View) (follows : T → List Stray → T �
   manned_stored = subst (λ (s : Seat T R). IsManned view (record s { left = Some (left - 1) })) (sym next.rest) stored
 
 -- at most as many calls are left as its storm has strays
-pub few_of : {T R : Type 0} (view : T → View) (x : Seat T R) (left : ℕ) → IsStraying view x left → (storm : ℕ × ℕ × ℕ) → storm_of x ≡ Some storm →
-    left ≤ storm.2
+pub few_of : {T R : Type 0} (view : T → View) (x : Seat T R) (left : ℕ) → IsStraying view x left → (storm : StormEntry) → storm_of x ≡ Some storm →
+    left ≤ storm.strays
 few_of view x left straying storm is =
     let same : straying.storm ≡ storm = (let e : Some straying.storm ≡ Some storm = sym straying.storm_is ∙ is in cc) in
-    subst (λ (s : ℕ × ℕ × ℕ). left ≤ s.2) same straying.few
+    subst (λ (s : StormEntry). left ≤ s.strays) same straying.few
 
 -- ---- what comes of them
 
@@ -196,19 +197,19 @@ module _ {T R : Type 0} (follows : T → List Stray → T → Type 0) (allows : 
       turned = λ left storm some storm_is.
           let flew = came.flies up in
           let same : begins.storm ≡ storm = (let e : Some begins.storm ≡ Some storm = sym begins.storm_is ∙ (storms_same w x came.mission came.unit ∙ storm_is) in cc) in
-          let all : left ≡ storm.2 = (let e : Some left ≡ Some begins.storm.2 = sym some ∙ begins.left in let l : left ≡ begins.storm.2 = cc in
-          l ∙ ap (λ (s : ℕ × ℕ × ℕ). s.2) same) in
-          let zero : 0 ≡ storm.2 - left = omega arith in
-          let start : allows w.rogue (Started storm.1) z.rogue = subst (λ (s : ℕ × ℕ × ℕ). allows w.rogue (Started s.1) z.rogue) same
-          (subst (λ (r : R). allows r (Started begins.storm.1) z.rogue) flew.0 begins.start) in
-          subst (λ (ss : List Stray). StormsBy allows (sifted_at w) storm.1 w.rogue (storm.2 - left) ss z.rogue) (sym flew.1)
-          (subst (λ (n : ℕ). StormsBy allows (sifted_at w) storm.1 w.rogue n [] z.rogue) zero
-          (laws.begins (sifted_at w) storm.1 w.rogue z.rogue start));
+          let all : left ≡ storm.strays = (let e : Some left ≡ Some begins.storm.strays = sym some ∙ begins.left in let l : left ≡ begins.storm.strays = cc in
+          l ∙ ap (λ (s : StormEntry). s.strays) same) in
+          let zero : 0 ≡ storm.strays - left = omega arith in
+          let start : allows w.rogue (Started storm.number) z.rogue = subst (λ (s : StormEntry). allows w.rogue (Started s.number) z.rogue) same
+          (subst (λ (r : R). allows r (Started begins.storm.number) z.rogue) flew.0 begins.start) in
+          subst (λ (ss : List Stray). StormsBy allows (sifted_at w) storm.number w.rogue (storm.strays - left) ss z.rogue) (sym flew.1)
+          (subst (λ (n : ℕ). StormsBy allows (sifted_at w) storm.number w.rogue n [] z.rogue) zero
+          (laws.begins (sifted_at w) storm.number w.rogue z.rogue start));
     })
 
     -- by a call of `next`
     pub comes_stored : (view : T → View) (x y : Seat T R) (left : ℕ) → x.left ≡ Some left → 0 < left →
-        ((storm : ℕ × ℕ × ℕ) → storm_of x ≡ Some storm → left ≤ storm.2) → StoresNext allows view follows x y →
+        ((storm : StormEntry) → storm_of x ≡ Some storm → left ≤ storm.strays) → StoresNext allows view follows x y →
         Comes follows allows x (record y { left = Some (left - 1) })
     comes_stored view x y left is some few next w came =
         subst (λ (s : Seat T R). Came follows allows w (record s { left = Some (left - 1) })) (sym next.rest) (record {
@@ -218,13 +219,13 @@ module _ {T R : Type 0} (follows : T → List Stray → T → Type 0) (allows : 
           port = on w.port x.port y.port came.strays (option_to_list (option_map stray_of next.shot)) came.port next.port;
           flies = λ none. absurd (none_some none refl);
           turned = λ n storm same storm_is.
-              let fewer : left ≤ storm.2 = few storm (storms_same w x came.mission came.unit ∙ storm_is) in
+              let fewer : left ≤ storm.strays = few storm (storms_same w x came.mission came.unit ∙ storm_is) in
               let less : left - 1 ≡ n = cc in
-              let one : storm.2 - left + 1 ≡ storm.2 - n = omega arith in
+              let one : storm.strays - left + 1 ≡ storm.strays - n = omega arith in
               let shoots : Shoots allows (sifted_at w) x.rogue next.shot y.rogue =
               subst (λ (s : Act → Option Stray). Shoots allows s x.rogue next.shot y.rogue)
               (sifted_same w x came.mission came.unit) next.shoots in
-              subst (λ (k : ℕ). StormsBy allows (sifted_at w) storm.1 w.rogue k (option_to_list (option_map stray_of next.shot) ++ came.strays) y.rogue) one
-              (laws.goes_on (sifted_at w) (record { number = storm.1; count = storm.2 - left; strays = came.strays }) w.rogue x.rogue y.rogue next.shot
+              subst (λ (k : ℕ). StormsBy allows (sifted_at w) storm.number w.rogue k (option_to_list (option_map stray_of next.shot) ++ came.strays) y.rogue) one
+              (laws.goes_on (sifted_at w) (record { number = storm.number; count = storm.strays - left; strays = came.strays }) w.rogue x.rogue y.rogue next.shot
               (came.turned left storm is storm_is) shoots);
         })

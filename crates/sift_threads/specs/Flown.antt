@@ -9,6 +9,7 @@ use Rattle.sift_conduct.specs.Acts.{BoardKeeps}
 use Rattle.sift_conduct.specs.Frames.{frames_before}
 use Rattle.sift_conduct.specs.declared.account.Account.{Account as TheAccount}
 use Rattle.sift_rogue.specs.Storms.{Call, Storms, sifted}
+use Rattle.sift_script.specs.declared.script.StormEntry.{StormEntry}
 use Rattle.sift_ether.specs.Tokens.{AreTokensOf, conduct_at}
 use Rattle.sift_ether.specs.declared.ether.Ether.{Ether}
 use Rattle.sift_core.specs.Courses.{storm_at}
@@ -22,9 +23,9 @@ pub record HasLanded {R : Type 0} (d : MissionData) (x : R) (c : Conduct) (y : R
 
 -- a unit with a storm has turned; its rogue was called once by `start` with the storm's number, and then by `next` once for each of the storm's
 -- strays, and those to which its acts come are the strays that the unit has stored
-pub record HasStrayed {R : Type 0} (allows : R → Call → R → Type 0) (d : MissionData) (u : ℕ) (storm : ℕ × ℕ × ℕ) (x : R) (c : Conduct) (y : R) : Type 0 where
+pub record HasStrayed {R : Type 0} (allows : R → Call → R → Type 0) (d : MissionData) (u : ℕ) (storm : StormEntry) (x : R) (c : Conduct) (y : R) : Type 0 where
   pub progress : c.progress ≡ never
-  pub rogue : Storms allows (sifted d.layout u) (record { number = storm.1; count = storm.2; strays = c.strays }) x y
+  pub rogue : Storms allows (sifted d.layout u) (record { number = storm.number; count = storm.strays; strays = c.strays }) x y
 
 module _ {R : Type 0} (allows : R → Call → R → Type 0) (d : MissionData) where
   -- a unit has flown, with its rogue, which was x before: by its accounts its acts are those of its board's conduct in all frames in which it
@@ -33,7 +34,7 @@ module _ {R : Type 0} (allows : R → Call → R → Type 0) (d : MissionData) w
     pub kept : (absent : Account) → BoardKeeps (flown d) u c (λ f. slice_index_or (map account_of accounts) f absent) d.frames
     pub count : length accounts ≡ frames_before ((flown d).storm u) d.frames
     pub calm : storm_at d u ≡ None → HasLanded d x c y
-    pub storm : (storm : ℕ × ℕ × ℕ) → storm_at d u ≡ Some storm → HasStrayed allows d u storm x c y
+    pub storm : (storm : StormEntry) → storm_at d u ≡ Some storm → HasStrayed allows d u storm x c y
 
   -- all units have flown: all tokens are there, in the order of their units, with a list of accounts for each, and the rogues, which were xs
   -- before; those beyond the units are as they were

@@ -7,6 +7,7 @@ use Rattle.sift_mission.specs.Data.{MissionData, FlownMission}
 use Rattle.sift_mission.specs.Parts.{data_of, flown_of}
 use Rattle.sift_rogue.specs.Storms.{Call, Storms, sifted}
 use Rattle.sift_rogue.specs.declared.act.Act.{Act}
+use Rattle.sift_script.specs.declared.script.StormEntry.{StormEntry}
 use Rattle.sift_unit.specs.Boards.{Drives}
 use Rattle.sift_core.specs.Courses.{storm_at}
 use Rattle.sift_threads.specs.declared.seat.Seat.{Seat}
@@ -24,7 +25,7 @@ module _ {T R : Type 0} where
   end_at x = (mission_at x).frames * (mission_at x).period
 
   -- the storm of its unit, if it has one
-  abbrev pub storm_of : Seat T R → Option (ℕ × ℕ × ℕ)
+  abbrev pub storm_of : Seat T R → Option StormEntry
   storm_of x = storm_at (data_at x) x.unit
 
   -- the stray that an act of its unit comes to, if it comes to one
@@ -41,9 +42,9 @@ module _ {T R : Type 0} (view : T → View) where
   pub record IsStraying (x : Seat T R) (left : ℕ) : Type 0 where
     pub turned : (view x.port).conduct.left < never
     pub number : (view x.port).conduct.progress ≡ never
-    pub storm : ℕ × ℕ × ℕ
+    pub storm : StormEntry
     pub storm_is : storm_of x ≡ Some storm
-    pub few : left ≤ storm.2
+    pub few : left ≤ storm.strays
 
   -- all that a step wants and keeps: the board drives on the port, which is one of the mission's layout and frames, and of the seat's unit; and
   -- the unit flies, or has turned, as the seat says
@@ -69,8 +70,8 @@ module _ {T R : Type 0} (follows : T → List Stray → T → Type 0) (allows : 
     pub strays : List Stray
     pub port : follows x.port strays y.port
     pub flies : y.left ≡ None → (y.rogue ≡ x.rogue) × (strays ≡ [])
-    pub turned : (left : ℕ) (storm : ℕ × ℕ × ℕ) → y.left ≡ Some left → storm_of x ≡ Some storm →
-        Storms allows (sifted_at x) (record { number = storm.1; count = storm.2 - left; strays = strays }) x.rogue y.rogue
+    pub turned : (left : ℕ) (storm : StormEntry) → y.left ≡ Some left → storm_of x ≡ Some storm →
+        Storms allows (sifted_at x) (record { number = storm.number; count = storm.strays - left; strays = strays }) x.rogue y.rogue
 
   -- whatever a seat came of, the next came of it too
   abbrev pub Comes : Seat T R → Seat T R → Type 0

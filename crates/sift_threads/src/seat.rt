@@ -1,5 +1,6 @@
 //! A unit's board at its port, with its rogue.
 ghost use Rattle.std.specs.Prelude.{◌≡◌, ◌<◌, ℕ, Some, None};
+ghost use Rattle.sift_script.specs.declared.script.StormEntry.{StormEntry};
 ghost use Rattle.sift_workers.specs.Going.{IsHome};
 ghost use Rattle.sift_threads.specs.Seats.{IsManned, IsStraying, IsDone, Comes, storm_of};
 ghost use Rattle.sift_threads.specs.SeatSteps.{BeginsStorm, StoresNext};
@@ -35,12 +36,12 @@ impl<T: Port, R: Rogue> Seat<'_, T, R> {
 
     /// The storm of the unit begins, which has turned.
     fn begin_storm(&mut self)
-        requires { (storm : ℕ × ℕ × ℕ) × (storm_of self.old ≡ Some storm) }
+        requires { (storm : StormEntry) × (storm_of self.old ≡ Some storm) }
         ensures { BeginsStorm R.allows self.old self.new }
     {
-        if let Some((_, number, strays)) = self.mission.parts().script.storm_of(self.unit) {
-            self.rogue.start(number);
-            self.left = Some(strays);
+        if let Some(storm) = self.mission.parts().script.storm_of(self.unit) {
+            self.rogue.start(storm.number);
+            self.left = Some(storm.strays);
             return;
         }
         unreachable!()

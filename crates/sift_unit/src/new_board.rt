@@ -45,6 +45,6 @@ impl Board {
 fn storm_of(mission: &Mission, unit: UnitId) -> Option<u32>
     ensures { result ≡ (flown_of mission.now).storm unit }
 {
-    let (from, _, _) = mission.parts().script.storm_of(unit)?;
-    Some(from)
+    let storm = mission.parts().script.storm_of(unit)?;
+    Some(storm.from)
 }

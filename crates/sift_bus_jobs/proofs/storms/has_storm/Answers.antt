@@ -1,5 +1,6 @@
 use Rattle.std.proofs.Common.{◌<◌, ℕ, option_map, ap, sym, ◌∙◌, arith}
 use Rattle.sift_config.specs.laws.FirstUnits.{low_unit, unit_low}
+use Rattle.sift_script.specs.declared.script.StormEntry.{StormEntry}
 use Rattle.sift_bus_jobs.proofs.Coming.{comes}
 use Rattle.sift_bus_jobs.proofs.storms.has_storm.Goals as goal
 
@@ -14,7 +15,7 @@ returns-then-is_some-clause-storm c =
       c.in-Some.unit,
       storm.0,
       low_unit c.args.mission.now.units c.in-Some.unit low,
-      ap (option_map (λ (storm : ℕ × ℕ × ℕ). storm.0)) (sym (rw c.parts-in-Some.ensures.same at c.storm_of.ensures)) ∙ storm.1,
+      ap (option_map (λ (storm : StormEntry). storm.from)) (sym (rw c.parts-in-Some.ensures.same at c.storm_of.ensures)) ∙ storm.1,
     )
 
 -- all units are below the number

@@ -7,6 +7,6 @@ abbrev unbegun : Storm
 unbegun = record { drawer = 0 }
 
 pub returns : goal.returns
-returns c = λ storms mission strays given u from number count low storm.
-    let gave = given u from number count unbegun low storm in
-    (c.drawn_storms_are_the_draws.ensures.strays (sifted mission.layout u) (record { number = number; count = count; strays = strays u }) _ gave.0 gave.1).0
+returns c = λ storms mission strays given u storm low is.
+    let gave = given u storm unbegun low is in
+    (c.drawn_storms_are_the_draws.ensures.strays (sifted mission.layout u) (record { number = storm.number; count = storm.strays; strays = strays u }) _ gave.0 gave.1).0
