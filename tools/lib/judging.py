@@ -9,13 +9,16 @@ class NotJudged(Exception):
     """Why the program says neither yes nor no."""
 
 
+def joined(document, report):
+    """What the judge reads: the document, the line that divides, and the report."""
+    return document + (b"" if document.endswith(b"\n") else b"\n") + DIVIDER + report
+
+
 def judged(program, document, report, version=None):
     """The line of the judge: `yes`, or what the report breaks. A report of both versions needs no version."""
     words = ["--report", str(version)] if version == 1 else []
-    behind = b"" if document.endswith(b"\n") else b"\n"
     quiet = {**os.environ, "SIFT_OFFERS": "no"}
-    whole = document + behind + DIVIDER + report.replace(b"\r\n", b"\n")
-    answer = subprocess.run([program, "judge", *words], input=whole, stdout=subprocess.PIPE, stderr=subprocess.DEVNULL, env=quiet, check=False)
+    answer = subprocess.run([program, "judge", *words], input=joined(document, report.replace(b"\r\n", b"\n")), stdout=subprocess.PIPE, stderr=subprocess.DEVNULL, env=quiet, check=False)
     if answer.returncode not in (0, 12, 13):
         raise NotJudged(f"{program} judge ends with status {answer.returncode}")
     return answer.stdout.decode(errors="replace").strip()

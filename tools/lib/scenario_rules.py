@@ -76,7 +76,7 @@ def unknown_keys(table, header, keys=None):
             continue
         known = f"{header} has the keys {choice(keys)}"
         owners = [other for other, inner in KEYS.items() if name in inner]
-        like = nearest(name, keys)
+        like = nearest(name, [key for key in keys if key not in table.data])
         if name in SECOND_KEYS.get(header, ()):
             why = f"`{name}` is a key of version 2, and this document is one of version 1"
             yield spot(entry), (why, f"`version = 2` above the first `[..]` line, or no `{name}`")
