@@ -40,16 +40,31 @@ _sift() {
 }
 complete -F _sift sift
 
+# Offers the words of the mission that stands on the line of sift-words, or alone in this folder, for the last name of a list
+# with commas.
+_sift_plotted() {
+  local word=$1 before='' other mission='' here=(*.toml) names=()
+  [[ $word == *,* ]] && before=${word%,*},
+  [ "${#here[@]}" -eq 1 ] && mission=${here[0]}
+  for other in "${COMP_WORDS[@]:1}"; do
+    [[ $other == *.toml ]] && mission=$other
+  done
+  mapfile -t names < <("${COMP_WORDS[0]}" --names "$mission" 2>/dev/null)
+  mapfile -t COMPREPLY < <(compgen -P "$before" -W "${names[*]}" -- "${word##*,}")
+  compopt -o nospace 2>/dev/null
+}
+
 _sift_tool() {
   local word=${COMP_WORDS[COMP_CWORD]} options=--help
   case ${COMP_WORDS[COMP_CWORD - 1]} in
     --kinds) mapfile -t COMPREPLY < <(compgen -W 'wrong silence two-faces' -- "$word"); return ;;
-    --from | --limit | --batch | --jobs | --sshlogin | --replay) COMPREPLY=(); return ;;
+    --plot) _sift_plotted "$word"; return ;;
+    --from | --limit | --batch | --jobs | --sshlogin | --replay | --frames) COMPREPLY=(); return ;;
   esac
   case ${COMP_WORDS[0]##*/} in
-    sift-picture) options+=' --text --schedule --sweep' ;;
-    sift-sweep) options+=' --single --pairs --kinds --from --limit --out --program --batch --jobs --sshlogin --resume --replay' ;;
-    sift-words) options+=' --json --plot' ;;
+    sift-picture) options+=' --text --frames --schedule --sweep' ;;
+    sift-sweep) options+=' --single --pairs --kinds --from --limit --out --program --batch --jobs --sshlogin --resume --overwrite --replay' ;;
+    sift-words) options+=' --json --plot --names --unjudged' ;;
   esac
   if [[ $word == -* ]]; then
     mapfile -t COMPREPLY < <(compgen -W "$options" -- "$word")

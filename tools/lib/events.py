@@ -1,4 +1,4 @@
-"""What happened in a flight, in words."""
+"""What happened in a flight, in words. An event is its first frame, its place among those of the frame, its words, and its last frame."""
 from reports import digits, kinds_of, named, stretches_of, when
 
 
@@ -20,9 +20,9 @@ def faults_told(flight):
         caught = [unit for unit in units if unit not in missed]
         for group, more in ((caught, ""), (missed, ", and never caught")):
             if group:
-                events.append((number, 0, f"frame {number}: {named(group, 'is', 'are')} faulty from here on{more}"))
+                events.append((number, 0, f"frame {number}: {named(group, 'is', 'are')} faulty from here on{more}", number))
     for number, units in turned(flight, "idle"):
-        events.append((number, 3, f"frame {number}: {named(units, 'is', 'are')} idle: at work, but out"))
+        events.append((number, 3, f"frame {number}: {named(units, 'is', 'are')} idle: at work, but out", number))
     return events
 
 
@@ -34,7 +34,8 @@ def catches_told(flight):
             catchers = [tuple(by for by in frame.caught_by(unit) if frame.catches[by][unit] == letters) for frame in flight.frames]
             for first, last, by in stretches_of(catchers):
                 if by:
-                    events.append((first, 1, f"{when(first, last)}: {named(by, 'catches', 'catch')} unit {unit}{kinds_of(letters)}"))
+                    words = f"{when(first, last)}: {named(by, 'catches', 'catch')} unit {unit}{kinds_of(letters)}"
+                    events.append((first, 1, words, last))
     return events
 
 
@@ -49,17 +50,19 @@ def changes_told(flight):
             words = [named(out, "is", "are") + " out"] if out else []
             words += [named(new, "is", "are") + " in, as another unit tells it"] if new else []
             where = f"frame {frame}" if frame < len(flight.frames) else "after the last frame"
-            events.append((frame, 2, f"{where}: {'; '.join(words)}; the configuration is {digits(after, '')}"))
+            events.append((frame, 2, f"{where}: {'; '.join(words)}; the configuration is {digits(after, '')}", frame))
     lost = next((number for number, frame in enumerate(flight.frames) if not frame.margin), None)
     if lost is not None:
-        events.append((lost, 4, f"frame {lost}: the margin is lost"))
+        events.append((lost, 4, f"frame {lost}: the margin is lost", lost))
     for first, last, split in stretches_of([frame.split() for frame in flight.frames]):
         if split:
-            events.append((first, 5, f"{when(first, last)}: units have different configurations"))
+            events.append((first, 5, f"{when(first, last)}: units have different configurations", last))
     return events
 
 
-def events_of(flight):
-    """All that happened, in the order of the frames."""
-    events = sorted(faults_told(flight) + catches_told(flight) + changes_told(flight))
-    return [words for _, _, words in events] or ["every unit works in every frame, and nobody is caught"]
+def events_of(flight, stated=(), first=0, last=None):
+    """All that happened, in the order of the frames, with what the mission states; or what of it happened in some frames."""
+    events = sorted([*faults_told(flight), *stated, *catches_told(flight), *changes_told(flight)])
+    last = len(flight.frames) if last is None else last
+    told = [words for begin, _, words, end in events if begin <= last and end >= first]
+    return told or ["every unit works in every frame, and nobody is caught"] if not events else told or ["nothing happens in these frames"]

@@ -43,7 +43,7 @@ def named(what, value):
     return f"{value:,} {GROWTHS[what][2 if value == 1 else 3]}"
 
 
-def text_of(times):
+def text_of(times, _width):
     """The times as lines: a # for each fortieth of the longest wall time."""
     lines, most = [], max(time.wall for some in times.values() for time in some) or 1
     for what, some in times.items():

@@ -4,6 +4,8 @@ import glob
 import os
 import shutil
 
+LOGS = ("jobs.log", "jobs.txt")  # the engine's log, and what the jobs wrote
+KEPT = (*LOGS, "runs.tsv")  # what a campaign keeps beside its kit
 KIT = "sift-campaign-"  # what the name of a kit's folder begins with; it lies under that name on other machines, too
 
 
@@ -15,7 +17,7 @@ def new_kit(folder, undo):
         made.append(os.path.dirname(made[-1]))
     for path in reversed(made[:-1]):
         undo.callback(taken_away, os.rmdir, path)
-    for name in ("jobs.log", "jobs.txt"):
+    for name in LOGS:
         path = os.path.join(folder, name)
         if not os.path.exists(path):
             undo.callback(taken_away, os.remove, path)
@@ -30,10 +32,14 @@ def taken_away(remove, path):
         remove(path)
 
 
+def kits_of(folder):
+    """The kits of a campaign's folder, of which there is one where a campaign has begun in it."""
+    return [os.path.dirname(begun) for begun in glob.glob(os.path.join(glob.escape(folder), KIT + "*", "campaign.json"))]
+
+
 def kit_of(folder):
-    """The kit of a campaign's folder, or None where no campaign has begun in it."""
-    begun = glob.glob(os.path.join(glob.escape(folder), KIT + "*", "campaign.json"))
-    return os.path.dirname(begun[0]) if begun else None
+    """The kit of a campaign's folder, or None."""
+    return next(iter(kits_of(folder)), None)
 
 
 def can_fly(program):

@@ -27,7 +27,7 @@ def sort_and_rule(line):
 
 def cells(line):
     """The cells of a line of a table of a page, with each link as the file that it names."""
-    linked = re.sub(r"\[[^]]*\]\(([a-z-]+\.md)\)", r"docs/\1", line.strip().strip("|"))
+    linked = re.sub(r"\[([^]]*)\]\(([a-z-]+\.md)(#[^)]*)?\)", lambda link: link[1] if link[3] else f"docs/{link[2]}", line.strip().strip("|"))
     return [cell.strip().replace("\\|", "|") for cell in re.split(r"(?<!\\)\|", linked)]
 
 

@@ -73,8 +73,13 @@ class Row:
     @property
     def lasting(self):
         """The most frames that a fault that was said took until its unit was out: without an end where it stays."""
-        said = [frames for frames, fate in zip(self.removals, self.fates) if fate != "inert"]
-        return max((math.inf if frames is None else frames for frames in said), default=0)
+        return max(self.lasting_at(place) for place in range(len(self.faults)))
+
+    def lasting_at(self, place):
+        """The same of one of its faults: 0 where it is inert."""
+        if self.fates[place] == "inert":
+            return 0
+        return math.inf if self.removals[place] is None else self.removals[place]
 
     def badness(self):
         """What the worst rows have the greatest of: a lost output, what became of it, how long it lasts, and wrong words."""

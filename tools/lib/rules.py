@@ -5,7 +5,7 @@ the program's line, and finds here the place that it speaks of. `tools/test-expl
 cases/.
 """
 from mission import Mission
-from scenario_rules import broken_rules
+from scenario_rules import broken_rules, later_rules
 from script_rules import broken_scripts
 from table_rules import broken_tables
 from task_rules import refused_tasks
@@ -22,3 +22,22 @@ def refusals(root):
         if found:
             return found
     return []
+
+
+def others(root, first):
+    """What else a document breaks than what it is refused for, as far as that can be told, at other places.
+
+    The program doesn't tell it: it answers the first refusal alone. Each step and each rule is looked at where nothing that it
+    rests on is broken; some of what is found may be gone with the first.
+    """
+    mission = Mission(root)
+    scenario = list(broken_rules(mission))
+    if scenario:
+        found = [*scenario, *later_rules(mission, int(scenario[0].line.split()[2]))]
+    else:
+        tasks = list(refused_tasks(mission))
+        found = [*tasks, *([] if tasks else broken_tables(mission)), *broken_scripts(mission)]
+    at_place = {}
+    for broken in found:
+        at_place.setdefault(broken.start, broken)
+    return [broken for broken in at_place.values() if broken.start != first.start]

@@ -2,7 +2,7 @@
 from mission import KEYS, ROOT_KEYS, SECOND_KEYS, Broken, items_of, spot
 from places import KINDS
 from texts import choice, nearest
-from values import counted, wrong_array, wrong_digits, wrong_integer, wrong_name, wrong_word
+from values import bound_of, counted, wrong_array, wrong_digits, wrong_integer, wrong_name, wrong_word
 
 SLOTS = ("clock", "sense", "relay", "out", "report", "relay-report")
 INDEXED = {"sense": "the sensor", "relay": "the sensor", "out": "the task", "relay-report": "the unit whose report it is"}
@@ -76,7 +76,7 @@ def unknown_keys(table, header, keys=None):
             continue
         known = f"{header} has the keys {choice(keys)}"
         owners = [other for other, inner in KEYS.items() if name in inner]
-        like = nearest(name, keys)
+        like = nearest(name, [key for key in keys if key not in table.data])
         if name in SECOND_KEYS.get(header, ()):
             why = f"`{name}` is a key of version 2, and this document is one of version 1"
             yield spot(entry), (why, f"`version = 2` above the first `[..]` line, or no `{name}`")
@@ -159,9 +159,15 @@ def name_faults(entries, header):
             yield number, spot(value), wrong_name(value.data), False
         elif value.data in before:
             first = before[value.data]
-            yield number, spot(value), (f"`{value.data}` is the name of {header} number {first} already", "another name"), True
+            yield number, spot(value), (f"`{value.data}` is the name of {header} number {first} already", fresh(value.data, entries)), True
         else:
             before[value.data] = number
+
+
+def fresh(name, entries):
+    """What to do about a name that is taken."""
+    names = {value.data for value in (entry.get("name") for entry in entries) if value is not None}
+    return f"\"{next(other for other in (f'{name[:14]}_{number}' for number in range(2, 100)) if other not in names)}\", or another name"
 
 
 def word_list_faults(entry, name, header, least, most):
@@ -172,7 +178,7 @@ def word_list_faults(entry, name, header, least, most):
         return
     fault = wrong_array(name, value, least, most, "words")
     if fault:
-        yield spot(value), (fault[0], f"`[{value.data}]`") if value.kind == "integer" else fault
+        yield spot(value), fault
         return
     for word in value.data:
         if wrong_word(name, word):
@@ -204,8 +210,9 @@ def rule_4(mission):
 
 
 def rule_5(mission):
-    for place, fault in integer_fault(mission, "subframes", 12, 64, False):
-        yield 0, place, fault, False
+    for place, (why, mend) in integer_fault(mission, "subframes", 12, 64, False):
+        of_integer = mission.root.get("subframes").kind == "integer"
+        yield 0, place, (why, None if of_integer else mend), False  # what the page says is more than the nearest number
 
 
 def rule_6(mission):
@@ -288,16 +295,24 @@ def row_faults(name, value, units, bound, mend):
     for unit, entry in enumerate(value.data):
         wrong = wrong_integer(f"{name}", entry, -bound, bound)
         if wrong and entry.kind == "integer":
-            wrong = f"`{name}` of unit {unit} is {entry.data}, and is to be from {-bound:,} to {bound:,}", mend
+            within = bound_of(entry.data, -bound, bound) + (f", since {mend}" if mend else "")
+            wrong = f"`{name}` of unit {unit} is {entry.data}, and is to be from {-bound:,} to {bound:,}", within
         if wrong:
             yield spot(entry), wrong, entry.kind == "integer"
 
 
+def near_others(starts):
+    """What to write in place of a start that is none: one of another unit, since all are near one another."""
+    others = [unit for unit, start in enumerate(starts.data) if start.kind == "integer" and abs(start.data) <= LARGEST_CLOCK]
+    return f"`{starts.data[others[0]].data}`, as unit {others[0]} has it, or another number near the others" if others else None
+
+
 def rule_12(mission):
-    faults = list(figure_list(mission, "start", LARGEST_CLOCK, None))
     clock = mission.root.get("clock")
     value = clock.get("start") if clock else None
-    yield from faults
+    faults = list(figure_list(mission, "start", LARGEST_CLOCK, None))
+    for number, place, (why, mend), several in faults:
+        yield number, place, (why, near_others(value) if place != spot(value) else mend), several
     if value is None or faults:
         return
     for second, entry in enumerate(value.data):
@@ -446,11 +461,11 @@ def subframe_faults(table, name):
 
 def rule_25(mission):
     for number, table in enumerate(mission.tables):
-        for place, fault in position_faults(table):
+        for place, fault in position_faults(table, 4 + number):
             yield number, place, fault, False
 
 
-def position_faults(table):
+def position_faults(table, size):
     value = table.get("at")
     if value is None:
         yield missing_key(table, "at", "[[table]]")
@@ -459,7 +474,7 @@ def position_faults(table):
         yield spot(value), (f"`at` is {KINDS[value.kind]}, and is to be an array of strings, one for each task", mend)
     else:
         for entry in value.data:
-            wrong = wrong_digits("at", entry)
+            wrong = wrong_digits("at", entry, [str(position) for position in range(size)], 3)
             if wrong:
                 yield wrong[:2], wrong[2:]
 
@@ -529,20 +544,21 @@ def item_list_faults(say):
 
 def rule_29(mission):
     for number, fault in enumerate(mission.faults):
+        others = [str(unit) for unit in range(mission.units) if unit != fault.get("unit").data]
         for item in items_of(fault):
-            for place, why in item_faults(item):
+            for place, why in item_faults(item, others):
                 yield number, place, why, False
 
 
-def item_faults(item):
-    """The faults of an item, in the order of its keys."""
+def item_faults(item, others):
+    """The faults of an item, in the order of its keys, where these are the other units."""
     slot = item.get("slot")
     if slot is None or slot.kind != "string" or slot.data not in SLOTS:
         yield slot_fault(item, slot)
         return
     for name, wanted in (("index", slot.data in INDEXED), ("word", slot.data == "out")):
         yield from number_faults(item, slot.data, name, wanted)
-    yield from rest_faults(item)
+    yield from rest_faults(item, others)
 
 
 def slot_fault(item, slot):
@@ -561,21 +577,21 @@ def number_faults(item, slot, name, wanted):
     if wanted and value is None:
         what = INDEXED[slot] if name == "index" else "the word of the task, from 0"
         place, (why, mend) = missing_key(item, name, "[[fault.say]]")
-        yield place, (f"{why}: an item for \"{slot}\" names {what}", mend or f"`{name} = ..`")
+        yield place, (f"{why}: an item for \"{slot}\" names {what}", mend or f"`{name} = 0`, or another number")
     elif not wanted and value is not None:
         yield spot(item.data[name]), (f"an item for \"{slot}\" has no `{name}`", "leave it out")
     elif value is not None and wrong_integer(name, value, 0, 63):
         yield spot(value), wrong_integer(name, value, 0, 63)
 
 
-def rest_faults(item):
+def rest_faults(item, others):
     """The faults of the receivers, the frame and the word of an item."""
     to, frame, value = item.get("to"), item.get("frame"), item.get("value")
     if to is None:
         place, (why, mend) = missing_key(item, "to", "[[fault.say]]")
-        yield place, (f"{why}: to whom is it said?", mend or "`to = \"023\"`: the digits of the receivers")
-    elif wrong_digits("to", to):
-        wrong = wrong_digits("to", to)
+        yield place, (f"{why}: to whom is it said?", mend or f"`to = \"{''.join(others)}\"`, which is to all others, or some of them")
+    elif wrong_digits("to", to, others):
+        wrong = wrong_digits("to", to, others)
         yield wrong[:2], wrong[2:]
     if frame is not None and wrong_integer("frame", frame, 0, 999):
         yield spot(frame), wrong_integer("frame", frame, 0, 999)
@@ -631,11 +647,39 @@ SCENARIO_RULES = [
 ]
 
 
+# Of each rule those that must hold so that it can be looked at.
+RESTS_ON = {
+    7: {6}, 8: {6}, 9: {6}, 10: {6, 7, 8, 9}, 11: {6, 7, 8, 9}, 12: {2, 6, 7, 10}, 13: {2, 6, 8}, 14: {2, 6, 8}, 16: {15}, 17: {15},
+    19: {18}, 20: {18}, 21: {18, 20}, 22: {18, 20}, 23: {2, 4}, 24: {23}, 25: {23}, 27: {26}, 28: {26}, 29: {2, 26, 27, 28},
+    30: {26, 28}, 31: {18, 19, 23},
+}
+
+
+def broken_by(mission, number):
+    """The faults of a rule, in order."""
+    for entry, (start, end), (why, mend), several in SCENARIO_RULES[number - 1](mission):
+        yield Broken(f"scenario rule {number} at {entry}", start, end, why, mend, several)
+
+
 def broken_rules(mission):
     """The faults of the first rule that a document breaks: the rules behind it may rest on it."""
-    for number, rule in enumerate(SCENARIO_RULES, 1):
-        found = list(rule(mission))
+    for number in range(1, len(SCENARIO_RULES) + 1):
+        found = list(broken_by(mission, number))
         if found:
-            for entry, (start, end), (why, mend), several in found:
-                yield Broken(f"scenario rule {number} at {entry}", start, end, why, mend, several)
+            yield from found
             return
+
+
+def later_rules(mission, first):
+    """The faults of rules behind the first that is broken, where nothing that they rest on is. Where the root has a key that isn't
+    its own, another one may be missing for that alone."""
+    root, left_out = mission.root, {first}
+    elsewhere = tuple(f"`{name}` is missing" for name in root.data if name not in ROOT_KEYS) if first == 1 else ()
+    for number in range(first + 1, len(SCENARIO_RULES) + 1):
+        if RESTS_ON.get(number, set()) & left_out:
+            left_out.add(number)
+            continue
+        found = list(broken_by(mission, number))
+        if found:
+            left_out.add(number)
+        yield from [broken for broken in found if not (first == 1 and broken.start == root.start or broken.why.startswith(elsewhere))]

@@ -86,16 +86,21 @@ class Grid:
         yield f"free: {free} of {places} places, in the subframes {self.runs()[0]} to {self.runs()[-1]}"
 
 
-def grids_of(mission):
+class Schedule:
     """The grids of all sizes, the largest first, as a flight comes by them."""
-    return [Grid(mission, size) for size in range(mission.units, FEWEST - 1, -1)]
+
+    def __init__(self, mission, name):
+        self.name = name
+        self.subframes = mission.subframes
+        self.grids = [Grid(mission, size) for size in range(mission.units, FEWEST - 1, -1)]
 
 
 # For a terminal.
 
 TEXT_KEY = (
-    "A .. runs the task of this letter; . free; in the row `fixed`, what every unit does: s says clocks and sensors, r relays,",
-    "a agrees on sensors, b says whom it caught, e removes, and sets its clock. In the row `polls`, which tasks all vote on.",
+    "A .. runs the task of this letter; . is free; in the row `polls` all vote on it.",
+    "In the row `fixed`, what every unit does: s says clocks and sensors, r relays,",
+    "a agrees on sensors, b says whom it caught, e removes, and sets its clock.",
 )
 
 
@@ -103,31 +108,36 @@ def text_line(label, marks):
     return (label.ljust(11) + "".join(f"{mark:>3}" for mark in marks)).rstrip()
 
 
-def text_grid(grid):
-    """The lines of one size."""
-    subframes, fixed = range(grid.subframes), grid.fixed()
-    yield grid.head()
+def text_grid(grid, subframes):
+    """The lines of some subframes of a size."""
+    fixed = grid.fixed()
     yield text_line("subframe", subframes)
     yield text_line("fixed", [fixed[subframe][0] if subframe in fixed else "" for subframe in subframes])
     for position in range(grid.size):
         tasks = [grid.task_at(position, subframe) for subframe in subframes]
-        marks = [task.letter if task else "." if subframe in grid.runs() else "" for subframe, task in enumerate(tasks)]
+        marks = [task.letter if task else "." if subframe in grid.runs() else "" for subframe, task in zip(subframes, tasks)]
         yield text_line(f"position {position}", marks)
-    for row in range(max(len(grid.polled_in(subframe)) for subframe in subframes)):
+    for row in range(max(1, *(len(grid.polled_in(subframe)) for subframe in subframes))):
         polled = [grid.polled_in(subframe)[row:] for subframe in subframes]
         yield text_line("polls" if row == 0 else "", [tasks[0].letter if tasks else "" for tasks in polled])
-    yield from grid.notes()
-    yield ""
 
 
-def text_of(mission):
-    lines = [line for grid in grids_of(mission) for line in text_grid(grid)]
+def text_of(schedule, width):
+    """The grids, with as many subframes side by side as the width holds."""
+    side_by_side = max(1, (width - 11) // 3) if width else schedule.subframes
+    lines = [schedule.name, ""] if schedule.name else []
+    for grid in schedule.grids:
+        lines.append(grid.head())
+        for first in range(0, schedule.subframes, side_by_side):
+            lines += text_grid(grid, range(first, min(first + side_by_side, schedule.subframes)))
+        lines += [*grid.notes(), ""]
     return "\n".join([*lines, *TEXT_KEY]) + "\n"
 
 
 # For a browser.
 
 LEFT, ROW, BAR = 104, 26, 22
+SIZES = (11, 10, 9)  # of the names in the boxes, where they fit
 
 
 def colour_of(task):
@@ -139,9 +149,17 @@ def colour_of(task):
 class Page(Drawing):
     """The drawing of all grids, and where a subframe is."""
 
-    def __init__(self, subframes):
-        super().__init__(24)
-        self.cell = max(15.0, min(62.0, 960 / subframes))
+    def __init__(self, schedule):
+        super().__init__()
+        self.cell = max(15.0, min(62.0, 960 / schedule.subframes))
+        # The size in which each box has its whole name, or None where they all have letters.
+        self.for_tasks = self.size_of(task.name for grid in schedule.grids for task in grid.tasks)
+        self.for_fixed = self.size_of(word for _, _, word, _ in FIXED)
+
+    def size_of(self, names):
+        """The largest size in which all names fit into a subframe, or None."""
+        longest = max(map(len, names), default=0)
+        return next((size for size in SIZES if 0.58 * size * longest + 4 <= self.cell), None)
 
     def at(self, subframe):
         return round(LEFT + self.cell * subframe, 2)
@@ -149,11 +167,14 @@ class Page(Drawing):
     def label(self, y, words):
         self.words(LEFT - 10, y + 15, words, more=' text-anchor="end"')
 
-    def box(self, subframe, y, fill, words, letter, told, more=""):
-        """A bar in a subframe with its words, or its letter where there is no room."""
+    def box(self, subframe, y, fill, words, size, told, more=""):
+        """A bar in a subframe with its words."""
         self.bar(self.at(subframe) + 1, y, round(self.cell - 2, 2), BAR, fill, told, more)
-        shown = words if 6.4 * len(words) + 4 <= self.cell else letter
-        self.words(round(self.at(subframe) + self.cell / 2, 2), y + 15, shown, 11, ' text-anchor="middle" pointer-events="none"')
+        self.words(round(self.at(subframe) + self.cell / 2, 2), y + 15, words, size or SIZES[0], ' text-anchor="middle" pointer-events="none"')
+
+    def task_box(self, subframe, y, fill, task, told, more=""):
+        """A bar with the name of a task, or its letter."""
+        self.box(subframe, y, fill, task.name if self.for_tasks else task.letter, self.for_tasks, told, more)
 
 
 def draw_grid(page, grid):
@@ -163,11 +184,11 @@ def draw_grid(page, grid):
     y += 20
     page.words(LEFT - 10, y, "subframe", more=' text-anchor="end"')
     for subframe in range(grid.subframes):
-        page.words(round(page.at(subframe) + page.cell / 2, 2), y, subframe, 11, ' text-anchor="middle"')
+        page.words(round(page.at(subframe) + page.cell / 2, 2), y, subframe, 11 if page.cell >= 20 else 9, ' text-anchor="middle"')
     y += 6
     page.label(y, "fixed")
     for subframe, (letter, word, told) in sorted(fixed.items()):
-        page.box(subframe, y, "#e3e3e3", word, letter, f"subframe {subframe}: every unit {told}")
+        page.box(subframe, y, "#e3e3e3", word if page.for_fixed else letter, page.for_fixed, f"subframe {subframe}: every unit {told}")
     for position in range(grid.size):
         y += ROW
         page.label(y, f"position {position}")
@@ -175,7 +196,7 @@ def draw_grid(page, grid):
             task = grid.task_at(position, subframe)
             if task:
                 told = f"position {position} runs {task.name} in subframe {subframe}; it reads {', '.join(task.reads) or 'nothing'}"
-                page.box(subframe, y, colour_of(task), task.name, task.letter, told)
+                page.task_box(subframe, y, colour_of(task), task, told)
             else:
                 told = f"position {position} is free in subframe {subframe}"
                 page.bar(page.at(subframe) + 1, y, round(page.cell - 2, 2), BAR, "white", told, ' stroke="#cccccc"')
@@ -184,7 +205,7 @@ def draw_grid(page, grid):
     for task in grid.tasks:
         above = [other for other in grid.polled_in(task.poll) if other.letter < task.letter]
         more = f' stroke="{colour_of(task)}" stroke-width="2"'
-        page.box(task.poll, y + ROW * len(above), "white", task.name, task.letter, f"all vote on {task.name} in subframe {task.poll}", more)
+        page.task_box(task.poll, y + ROW * len(above), "white", task, f"all vote on {task.name} in subframe {task.poll}", more)
     y += ROW * max((len(grid.polled_in(task.poll)) for task in grid.tasks), default=1)
     for note in grid.notes():
         y += 17
@@ -192,9 +213,20 @@ def draw_grid(page, grid):
     page.bottom = y + 40
 
 
-def svg_of(mission):
-    page = Page(mission.subframes)
-    for grid in grids_of(mission):
+def draw_key(page):
+    """What the letters of the fixed subframes mean, where they have no room for words."""
+    if not page.for_fixed:
+        said = "; ".join(f"{letter} {word}" for letter, word in dict((letter, word) for _, letter, word, _ in FIXED).items())
+        page.words(LEFT, page.bottom - 16, f"in the row `fixed`: {said}", 12)
+        page.bottom += 17
+
+
+def svg_of(schedule):
+    page = Page(schedule)
+    page.name(schedule.name)
+    page.bottom += 16
+    for grid in schedule.grids:
         draw_grid(page, grid)
-    width = max(page.at(mission.subframes) + 32, 940)
+    draw_key(page)
+    width = max(page.at(schedule.subframes) + 32, 940)
     return page.svg("a schedule: positions by subframes", width, page.bottom - 16)

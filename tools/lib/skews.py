@@ -1,6 +1,8 @@
 """The drawing of a run of `sift clocks`: the skew of each round, and the bound that none is over."""
 import re
 
+from drawing import ticks
+
 NUMBER = "(0|[1-9][0-9]*)"
 ROUND = re.compile(f"round={NUMBER} skew={NUMBER}")
 LAST = re.compile(f"clocks n={NUMBER} m={NUMBER} most={NUMBER} bound={NUMBER}")
@@ -62,7 +64,7 @@ def rows_of(run, skews):
     return lines
 
 
-def text_of(run):
+def text_of(run, _width):
     """The drawing for a terminal, 100 rounds to a block."""
     lines = [run.headline(), ""]
     for first in range(0, len(run.skews), BLOCK):
@@ -96,16 +98,17 @@ def svg_of(run):
         f"<title>{run.headline()}</title>",
         f'<rect width="{width:g}" height="{height:g}" fill="white"/>',
         words(24, 28, run.headline(), 15, ' font-weight="bold"'),
-        words(LEFT - 10, TOP + HEIGHT / 2 - 3, "skew", 13, ' text-anchor="end"'),
-        words(LEFT - 10, TOP + HEIGHT / 2 + 12, "in ticks", 11, ' text-anchor="end"'),
+        words(LEFT - 46, TOP + HEIGHT / 2 - 3, "skew", 13, ' text-anchor="end"'),
+        words(LEFT - 46, TOP + HEIGHT / 2 + 12, "in ticks", 11, ' text-anchor="end"'),
     ]
     for number, skew in enumerate(run.skews):
         x, tall = round(LEFT + cell * number, 2), round(skew * scale, 2)
         elements.append(f'<rect x="{x:g}" y="{base - tall:g}" width="{cell:g}" height="{tall:g}" fill="{FILL}" stroke="white" stroke-width="0.3"><title>round {number}: skew {skew}</title></rect>')
-    elements.append(line(base, "#cccccc") + words(LEFT - 10, base + 4, 0, 11, ' text-anchor="end"'))
+    for value in ticks(0, run.bound):
+        y = round(base - value * scale, 2)
+        elements.append(line(y, "#cccccc") + words(LEFT - 10, y + 4, value, 11, ' text-anchor="end"'))
     if run.bound:
         elements.append(line(TOP, LIMIT + '" stroke-width="1.5" stroke-dasharray="6 3'))
-        elements.append(words(LEFT - 10, TOP + 4, run.bound, 11, ' text-anchor="end"'))
     elements.append(words(LEFT, TOP - 6, f"the bound: {run.bound}", 12, f' fill="{LIMIT}"'))
     step = next((step for step in (1, 2, 5, 10, 20, 50, 100) if step * cell >= 36), 200)
     elements += [words(LEFT + cell * (number + 0.5), base + 18, number, 12, ' text-anchor="middle"') for number in range(0, len(run.skews), step)]

@@ -5,13 +5,14 @@ import py_compile
 import shutil
 import subprocess
 import sys
+import tempfile
 import time
 
 from engine import Engine
 from faults import outline_of
 from files import read_source
 from flyer import DIVIDER, Flyer, NoFlight
-from kits import can_fly, kit_of, new_kit
+from kits import KEPT, can_fly, kit_of, kits_of, new_kit
 from loading import Refused, load, refusal, without_faults
 from records import Records, written
 from rows import Row, counted
@@ -21,6 +22,7 @@ LIB = os.path.dirname(os.path.realpath(__file__))
 TOP = os.path.dirname(os.path.dirname(LIB))
 # What flies a batch, and what that stands on.
 MODULES = ("campaign", "documents", "faults", "flights", "flyer", "outcomes", "reports", "rows", "slots")
+ROOM = 64 * 1024  # bytes: a disk with less room than that is full
 INSTALL = "a campaign's runs are jobs of GNU parallel, which isn't here: on Debian, apt-get install parallel"
 
 
@@ -79,13 +81,25 @@ def begin(options, kit, undo):
     base, mission = mission_of(options)
     if not can_fly(options.program):
         raise Stopped(f"there is no program {options.program}: tools/build makes it, or --program names one")
-    if kit_of(options.out):
-        raise Stopped(f"{options.out} has a campaign: --resume goes on with it, and --out names another folder", 2)
+    if kit_of(options.out) and not options.overwrite:
+        ways = "--resume goes on with it, --overwrite begins anew in its place, and --out names another folder"
+        raise Stopped(f"{options.out} has a campaign: {ways}", 2)
     if mission.faults:
         own = "fault is" if len(mission.faults) == 1 else f"{len(mission.faults)} faults are"
         say(f"the mission's own {own} left out")
+    older = [*kits_of(options.out), *(os.path.join(options.out, name) for name in KEPT)] if options.overwrite else []
     fill(kit or new_kit(options.out, undo), options, base, mission)
     undo.pop_all()
+    for path in older:
+        taken_away(path)
+
+
+def taken_away(path):
+    """Takes a file or a folder of an older campaign away, where it is there."""
+    if os.path.isdir(path):
+        shutil.rmtree(path)
+    elif os.path.lexists(path):
+        os.remove(path)
 
 
 def fill(kit, options, base, mission):
@@ -152,7 +166,9 @@ def end(records, status, begun):
     lines, seconds, whole = records.table()
     if not whole:
         flown = f"{len(lines):,} of {counted(len(records.campaign.numbers()), 'run', 'runs')}"
-        raise Stopped(f"{flown} were flown, and parallel ended with status {status}; --resume goes on")
+        full = next(filter(is_full, (records.folder, tempfile.gettempdir())), None)
+        why = f"the disk of {full} is full" if full else f"parallel ended with status {status}"
+        raise Stopped(f"{flown} were flown, and {why}; --resume goes on")
     rows = [Row(line) for line in lines]
     misjudged = [row for row in rows if row.judge not in ("yes", "-")]
     for row in misjudged:
@@ -161,6 +177,11 @@ def end(records, status, begun):
     table = os.path.relpath(records.path("runs.tsv"))
     say(f"{time.monotonic() - begun:.1f} s; the flights themselves took {seconds:.1f} s of processor time; {table} has the rows")
     return 1 if misjudged or any(len(row.faults) == 1 and (row.lost or row.wrong) for row in rows) else 0
+
+
+def is_full(folder):
+    """Whether the disk of a folder has no room for the rows of a job."""
+    return shutil.disk_usage(folder).free < ROOM
 
 
 def replay(campaign, number):

@@ -4,7 +4,7 @@ from mission import Broken
 
 
 def refused_tasks(mission):
-    """The first task that is refused."""
+    """The tasks that are refused, up to the first that takes too many steps."""
     steps = 0
     for number, task in enumerate(mission.tasks):
         try:
@@ -14,11 +14,11 @@ def refused_tasks(mission):
             line = f"task {number} kind {refused.kind} at {refused.place}"
             start, end = text.place_of_byte(refused.place), text.place_of_byte(refused.end)
             yield Broken(line, start, end, refused.why, refused.mend)
-            return
+            continue
         size = texts.size_of(statements)
         if size.length > texts.LONGEST_CODE:
             yield too_long(mission, number, statements, size)
-            return
+            continue
         if size.steps > texts.MOST_STEPS - steps:
             yield too_many_steps(mission, number, statements, size, steps)
             return

@@ -1,15 +1,17 @@
 """Plots words of a flight over those of the ideal machine."""
-from drawing import Drawing
+from drawing import Drawing, ticks
+from reports import stretches_of, when
 
 LEFT, HEIGHT, GAP = 104, 130, 70
-FLIGHT, IDEAL, MARK = "#1f78b4", "#fdbf6f", "#d7301f"
+FLIGHT, IDEAL, MARK, HELD = "#1f78b4", "#fdbf6f", "#d7301f", "#eeeeee"
 
 
 class Series:
     """A word over the frames of a flight: as each unit votes it, and as it is due, where that is known."""
 
-    def __init__(self, name, of_units, due):
+    def __init__(self, name, of_units, due, held):
         self.name = name
+        self.held = held  # of each frame whether its task is shed, so that the word is one of before
         self.of_units = of_units  # of each frame the words of all units, None where one tells none
         self.due = due  # of each frame the word, or None from the first frame on in which its task is shed, or one that it reads
         # The word of the lowest unit that tells one, or None.
@@ -69,7 +71,12 @@ class Panel:
     def draw(self):
         page, series = self.page, self.series
         page.words(24, self.top - 22, series.told(), 14)
-        for word in sorted({self.low, self.high}):
+        for first, last, held in stretches_of(series.held):
+            if held:
+                width = round(self.at(last + 1) - self.at(first), 2)
+                page.bar(self.at(first), self.top - 8, width, HEIGHT + 16, HELD, f"{when(first, last)}: held, since its task is shed")
+                page.words(self.at(first) + 4, self.top + HEIGHT + 20, "held", 11)
+        for word in ticks(self.low, self.high):
             page.words(LEFT - 10, self.height_of(word) + 4, word, 11, ' text-anchor="end"')
             page.line(LEFT, self.height_of(word), self.at(len(series.due)), self.height_of(word), 'stroke="#cccccc"')
         for words, colour, width in ((series.due, IDEAL, 6), (series.lead, FLIGHT, 2)):
@@ -105,11 +112,13 @@ def draw_key(page):
     page.bottom = y
 
 
-def svg_of(listed):
+def svg_of(listed, name):
     """The plot of some series, one below the other."""
-    page = Drawing(-10)
+    page = Drawing()
+    page.name(name)
+    page.bottom -= 18
     frames = len(listed[0].due)
-    cell = max(4.0, min(110.0, 860 / frames))
+    cell = max(0.86, min(110.0, 860 / frames))
     for series in listed:
         Panel(page, series, cell).draw()
     draw_axis(page, frames, cell)
