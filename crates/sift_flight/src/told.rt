@@ -3,14 +3,13 @@
 ghost use Rattle.std.specs.Prelude.{◌≡◌, ◌<◌};
 ghost use Rattle.sift_conduct.specs.Conduct.{account_of};
 ghost use Rattle.sift_mission.specs.Parts.{flown_of};
-ghost use Rattle.sift_mission.specs.Premises.{IsFlyable};
 ghost use Rattle.sift_flight.specs.Figures.{Works, lead_of};
 ghost use Rattle.sift_flight.specs.Told.{IsAccountOf, IsWhole, told};
 
 use crate::flight::Flight;
 use sift_base::UnitId;
 use sift_conduct::Account;
-use sift_mission::{Mission, fitting_parts_make_a_flight};
+use sift_mission::{Mission, a_mission_flies};
 
 /// The account of a unit in a frame in which it works.
 pub fn account_at<'a>(mission: &Mission, flight: &'a Flight, u: UnitId, f: u32) -> &'a Account
@@ -20,16 +19,8 @@ pub fn account_at<'a>(mission: &Mission, flight: &'a Flight, u: UnitId, f: u32) 
     ensures told { account_of result.now ≡ (told (flown_of mission.now) flight.now).account u f }
     ensures account { IsAccountOf (flown_of mission.now) u (account_of result.now) }
 {
-    can_be_flown(mission);
+    a_mission_flies(mission);
     &flight.accounts[usize::from(u.get())][f as usize]
-}
-
-/// A mission can be flown: its parts fit.
-fn can_be_flown(mission: &Mission)
-    ensures { IsFlyable (flown_of mission.now) }
-{
-    fitting_parts_make_a_flight();
-    mission.parts();
 }
 
 /// The lead unit of a frame: the lowest-numbered one that works in it. Some unit does.
@@ -37,7 +28,7 @@ pub(crate) fn lead_of(mission: &Mission, f: u32) -> UnitId
     ensures lead { result ≡ lead_of (flown_of mission.now) f }
     ensures works { Works (flown_of mission.now) result f }
 {
-    can_be_flown(mission);
+    a_mission_flies(mission);
     let everyone = mission.everyone();
     for i in 0..everyone.len() {
         let unit = everyone.unit_at(i);

@@ -12,7 +12,7 @@ use crate::told::caught_told;
 use crate::working::{config_told, working_at, working_in};
 use sift_base::{UnitId, UnitSet};
 use sift_config::Config;
-use sift_mission::Mission;
+use sift_mission::{Mission, a_mission_fits};
 use sift_report::ReportLine;
 
 /// Whether no working unit tells that it caught a working unit, itself among them.
@@ -55,8 +55,8 @@ pub(crate) fn has_exact_removal(mission: &Mission, lines: &[ReportLine], f: u32)
     requires frame { f < (data_of mission.now).frames }
     ensures { IsTrue result ↔ TellsExactRemoval (data_of mission.now) lines.now f }
 {
-    // The parts of a mission fit, so there is a number behind each frame's.
-    mission.parts();
+    // A mission fits, so there is a number behind each frame's.
+    a_mission_fits(mission);
     let Some(config) = config_told(mission, lines, f) else {
         return true;
     };

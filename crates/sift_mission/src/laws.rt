@@ -2,6 +2,7 @@
 
 ghost use Rattle.sift_mission.specs.Fits.{Fits};
 ghost use Rattle.sift_mission.specs.Parts.{flown_of, data_of};
+ghost use Rattle.sift_mission.specs.PartsFit.{PartsFit};
 ghost use Rattle.sift_mission.specs.Premises.{IsFlyable, RunsProgram, PartsMakeItFit, PartsMakeItFlyable};
 ghost use Rattle.sift_mission.specs.Slots.{NothingIsSaidToItself, StormsCome};
 
@@ -29,13 +30,15 @@ pub fn fitting_parts_make_a_mission()
     tasks_have_three_executors();
 }
 
-/// So has each mission, and each storm of its script comes in one of its frames.
+/// The parts of each mission fit, so it has them, too; and each storm of its script comes in one of its frames.
 pub fn a_mission_fits(mission: &Mission)
+    ensures parts { PartsFit (data_of mission.now) }
     ensures fits { Fits (flown_of mission.now) }
     ensures storms { StormsCome (flown_of mission.now) }
 {
     fitting_parts_make_a_mission();
     storms_come_in_the_mission();
+    // That they fit is known of a mission whose parts are read.
     let _parts = mission.parts();
 }
 
@@ -45,7 +48,7 @@ pub fn a_mission_flies(mission: &Mission)
     ensures program { RunsProgram (flown_of mission.now) (data_of mission.now).program }
 {
     fitting_parts_make_a_flight();
-    let _parts = mission.parts();
+    a_mission_fits(mission);
 }
 
 /// Its script of faults and its clocks are such as flights stand on, too.

@@ -12,7 +12,7 @@ use sift_base::NoMemory;
 use sift_core::fly;
 use sift_flight::{Flight, round_flights_are_whole};
 use sift_jobs::{FlightOrder, Workers};
-use sift_mission::Mission;
+use sift_mission::{Mission, a_mission_fits};
 use sift_rogue::Rogue;
 use sift_threads::{Probe, fly_threads};
 use std::alloc::Global;
@@ -30,7 +30,7 @@ fn fly_alone<R: Rogue>(
     ensures whole { IfOk result (IsWhole (flown_of mission.now) mission.now.layout) }
     ensures round { IfOk result (λ flight. IsFlightOf (AreGiven R.allows rogues.items) (data_of mission.now) (told (flown_of mission.now) flight)) }
 {
-    mission.parts();
+    a_mission_fits(mission);
     round_flights_are_whole();
     let mut rogues = rogues;
     fly(alloc, mission, order, rogues.as_mut_slice())
@@ -62,7 +62,7 @@ fn fly_together<R: Rogue + Send, P: Probe + Sync, H: Threads + Wait + Sync>(
     ensures whole { IfOk result (IsWhole (flown_of mission.now) mission.now.layout) }
     ensures round { IfOk result (λ flight. IsFlightOf (AreGiven R.allows rogues.items) (data_of mission.now) (told (flown_of mission.now) flight)) }
 {
-    mission.parts();
+    a_mission_fits(mission);
     round_flights_are_whole();
     fly_threads(rt, alloc, mission, workers, rogues, probe)
 }

@@ -160,6 +160,6 @@ pub(crate) fn leave_home<R: Rogue>(
 {
     boards_that_are_down_have_flown();
     tokens_come_back();
-    let _parts = mission.parts();
+    a_mission_fits(mission);
     leave_all(home, beyond, empty)
 }

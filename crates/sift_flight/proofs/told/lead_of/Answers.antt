@@ -15,7 +15,7 @@ returns-then-works-clause-lead c =
 pub returns-then-works-clause-works : goal.returns-then-works-clause-works
 returns-then-works-clause-works c =
     subst (λ u. Works (flown_of c.args.mission.now) u c.args.f) (sym (returns-then-works-clause-lead c))
-    (lead_works (flown_of c.args.mission.now) c.can_be_flown.ensures c.args.f)
+    (lead_works (flown_of c.args.mission.now) c.a_mission_flies.ensures.flyable c.args.f)
 
 pub loop-i-preserved : goal.loop-i-preserved
 loop-i-preserved c =
@@ -34,4 +34,4 @@ returns-clause-lead c =
 pub returns-clause-works : goal.returns-clause-works
 returns-clause-works c =
     subst (λ u. Works (flown_of c.args.mission.now) u c.args.f) (sym (returns-clause-lead c))
-    (lead_works (flown_of c.args.mission.now) c.can_be_flown.ensures c.args.f)
+    (lead_works (flown_of c.args.mission.now) c.a_mission_flies.ensures.flyable c.args.f)

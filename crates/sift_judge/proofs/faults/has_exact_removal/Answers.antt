@@ -8,7 +8,7 @@ use Rattle.sift_judge.proofs.faults.has_exact_removal.Goals as goal
 use Rattle.sift_judge.proofs.Caught.{two_tell}
 
 pub overflow_add-f : goal.overflow_add-f
-overflow_add-f c = omega (arith, c.requires.frame, c.parts.ensures.fit.limits.few_frames)
+overflow_add-f c = omega (arith, c.requires.frame, c.a_mission_fits.ensures.parts.limits.few_frames)
 
 pub returns : goal.returns
 returns c =

@@ -6,7 +6,7 @@ use Rattle.sift_run.proofs.flying.fly_alone.Goals as goal
 pub returns-clause-whole : goal.returns-clause-whole
 returns-clause-whole g c =
     both_ok c.fly.result _ _ _ c.fly.ensures.logged c.fly.ensures.round
-    (λ flight logged round. c.round_flights_are_whole.ensures (data_of c.args.mission.now) round.strays flight c.parts.ensures.fit logged round.round)
+    (λ flight logged round. c.round_flights_are_whole.ensures (data_of c.args.mission.now) round.strays flight c.a_mission_fits.ensures.parts logged round.round)
 
 pub returns-clause-round : goal.returns-clause-round
 returns-clause-round g c = rw (← c.as_mut_slice.ensures.value)

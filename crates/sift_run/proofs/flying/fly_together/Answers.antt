@@ -6,7 +6,7 @@ use Rattle.sift_run.proofs.flying.fly_together.Goals as goal
 pub returns-clause-whole : goal.returns-clause-whole
 returns-clause-whole g c =
     both_ok c.fly_threads.result _ _ _ c.fly_threads.ensures.logged c.fly_threads.ensures.round
-    (λ flight logged round. c.round_flights_are_whole.ensures (data_of c.args.mission.now) round.1.strays flight c.parts.ensures.fit logged round.1.round)
+    (λ flight logged round. c.round_flights_are_whole.ensures (data_of c.args.mission.now) round.1.strays flight c.a_mission_fits.ensures.parts logged round.1.round)
 
 pub returns-clause-round : goal.returns-clause-round
 returns-clause-round g c =
