@@ -1,12 +1,11 @@
 //! When each slot of a mission is said and heard under a configuration, who runs what, and what comes next.
 
 ghost use Rattle.std.specs.Prelude.{◌≡◌, ◌≢◌, ℕ, ◌+◌, ◌-◌, ◌<◌, ◌≤◌, length, true};
-ghost use Rattle.sift_base.specs.Layout.{IsLayout, slot_count};
+ghost use Rattle.sift_base.specs.Layout.{IsLayout, slot_count, slot_kind};
 ghost use Rattle.sift_base.specs.Units.{has, holds};
 ghost use Rattle.sift_mission.specs.Data.{IsConfigOf};
 ghost use Rattle.sift_mission.specs.Fits.{Fits};
 ghost use Rattle.sift_mission.specs.Parts.{data_of, flown_of};
-ghost use Rattle.sift_base.specs.Layout.{slot_kind};
 ghost use Rattle.sift_mission.specs.Flown.{runs_in};
 ghost use Rattle.sift_mission.specs.Stops.{part_of, spot, IsDueIn, IsNothingBetween};
 
@@ -200,7 +199,7 @@ impl Mission {
     }
 
     /// The next task, from a number on, that is run in a subframe, and the count of the slots where there is none.
-    pub fn next_task(&self, config: &Config, subframe: u32, from: usize) -> usize
+    fn next_task(&self, config: &Config, subframe: u32, from: usize) -> usize
         requires config { IsConfigOf (flown_of self.now) config.now }
         requires from { from ≤ (flown_of self.now).slots }
         ensures after { from ≤ result }

@@ -1,4 +1,4 @@
-//! A board before the flight.
+//! A board before the flight. It stands apart from the board itself, since what it cites is defined by boards.
 
 ghost use Rattle.std.specs.Prelude.{◌≡◌, IfOk, true};
 ghost use Rattle.sift_base.specs.Units.{has};
