@@ -286,7 +286,8 @@ class Parser:
         """Refuses the token that comes next, where what is due could stand."""
         token = self.peek()
         shown = "the text ends here" if token.kind == "end" else f"`{token.text}` can't stand here"
-        why, mend = self.slip(token) or (f"{due} could", None)
+        ends = "`;`, where a statement ends before here" if due.startswith("`;`") else None
+        why, mend = self.slip(token) or (f"{due} could", ends)
         raise RefusedText(2, token.place, token.end, f"{shown}: {why}", mend)
 
     def slip(self, token):
