@@ -14,10 +14,10 @@ use Rattle.sift_mission.specs.Data.{FlownMission, IsConfigOf}
 use Rattle.sift_mission.specs.Slots.{is_slot}
 use Rattle.sift_conduct.specs.Conduct.{Account, Places, UnitFrame, unit_frame, Conduct, report_in, report_of, reading_by}
 use Rattle.sift_conduct.specs.Frames.{IdleConduct}
-use Rattle.sift_memory.specs.Memory.{Memory}
-use Rattle.sift_memory.specs.Tidings.{busy_account, idle_account, names_now}
-use Rattle.sift_memory.specs.Conditions.{IsShaped}
-use Rattle.sift_memory.specs.laws.Sets.{holds-gathered}
+use Rattle.sift_unit_frame.specs.Memory.{Memory}
+use Rattle.sift_unit_frame.specs.Tidings.{busy_account, idle_account, names_now}
+use Rattle.sift_unit_frame.specs.Conditions.{IsShaped}
+use Rattle.sift_unit_frame.specs.laws.Sets.{holds-gathered}
 use Rattle.sift_unit.specs.Remembered.{Heard, with_clock}
 use Rattle.sift_unit.proofs.Tests.{any-and}
 

@@ -10,8 +10,8 @@ use Rattle.sift_mission.specs.Slots.{StormsCome}
 use Rattle.sift_mission.specs.Fits.{Fits}
 use Rattle.sift_mission.specs.laws.Frames.{frame_low}
 use Rattle.sift_conduct.specs.Conduct.{Account}
-use Rattle.sift_memory.specs.Memory.{Memory}
-use Rattle.sift_memory.specs.Conditions.{IsShaped}
+use Rattle.sift_unit_frame.specs.Memory.{Memory}
+use Rattle.sift_unit_frame.specs.Conditions.{IsShaped}
 use Rattle.sift_unit.specs.Desk.{Desk, is_end, account_now, moved}
 use Rattle.sift_unit.specs.Going.{InRange, Going}
 use Rattle.sift_unit.specs.Keeping.{IsEarly}

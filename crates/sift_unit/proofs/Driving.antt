@@ -7,9 +7,9 @@ use Rattle.sift_buffer.specs.Conditions.{MaySay, MayHear, MayEnter}
 use Rattle.sift_buffer.specs.Views.{View, view_with_said, view_with_heard, view_with_entered, view_with_turned, KeepsOwn, EntersAfterRound, Turns, at_once, after_round}
 use Rattle.sift_mission.specs.Data.{FlownMission}
 use Rattle.sift_mission.specs.Fits.{Fits}
-use Rattle.sift_memory.specs.Tidings.{word_to}
-use Rattle.sift_memory.specs.Conditions.{IsSlotOfFrame, IsShaped}
-use Rattle.sift_memory.specs.Memories.{memory_of}
+use Rattle.sift_unit_frame.specs.Tidings.{word_to}
+use Rattle.sift_unit_frame.specs.Conditions.{IsSlotOfFrame, IsShaped}
+use Rattle.sift_unit_frame.specs.Memories.{memory_of}
 use Rattle.sift_unit.specs.Desk.{Desk, is_hearing, is_saying}
 use Rattle.sift_unit.specs.Going.{Going}
 use Rattle.sift_unit.specs.Passing.{Passes}

@@ -13,8 +13,8 @@ use Rattle.sift_mission.specs.Fits.{Fits}
 use Rattle.sift_mission.specs.laws.Silent.{speaks}
 use Rattle.sift_conduct.specs.Conduct.{Account, unit_frame, Conduct}
 use Rattle.sift_conduct.specs.Frames.{last_of}
-use Rattle.sift_memory.specs.Memory.{Memory}
-use Rattle.sift_memory.specs.Conditions.{IsShaped}
+use Rattle.sift_unit_frame.specs.Memory.{Memory}
+use Rattle.sift_unit_frame.specs.Conditions.{IsShaped}
 use Rattle.sift_unit.specs.Reach.{IsNearIn}
 use Rattle.sift_unit.specs.Desk.{Desk, cursor, account_now, ended_desk}
 use Rattle.sift_unit.specs.Going.{Accounts, Words, Agrees, Fate, Meets, Ended, InRange, Going}

@@ -9,8 +9,8 @@ use Rattle.sift_mission.specs.Data.{FlownMission}
 use Rattle.sift_mission.specs.laws.ByWords.{get_or-map_default}
 use Rattle.sift_conduct.specs.Conduct.{Account, account_of}
 use Rattle.sift_conduct.specs.declared.account.Account.{Account as TheAccount}
-use Rattle.sift_memory.specs.Memory.{Memory}
-use Rattle.sift_memory.specs.Memories.{memory_of}
+use Rattle.sift_unit_frame.specs.Memory.{Memory}
+use Rattle.sift_unit_frame.specs.Memories.{memory_of}
 use Rattle.sift_unit.specs.Desk.{Desk, first_desk}
 use Rattle.sift_unit.specs.Keeping.{Flying, KeepsAs}
 use Rattle.sift_unit.specs.Reach.{IsNearIn}

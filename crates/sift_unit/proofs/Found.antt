@@ -12,7 +12,7 @@ use Rattle.sift_mission.specs.Fits.{Fits}
 use Rattle.sift_conduct.specs.Conduct.{Account, reading_by}
 use Rattle.sift_conduct.specs.Acts.{heard_places}
 use Rattle.sift_conduct.specs.laws.NextConfigs.{next_is_config}
-use Rattle.sift_memory.specs.Tidings.{names_now}
+use Rattle.sift_unit_frame.specs.Tidings.{names_now}
 use Rattle.sift_unit.specs.Reach.{IsNearIn}
 use Rattle.sift_unit.specs.Remembered.{with_clock}
 use Rattle.sift_unit.specs.Desk.{Desk, cursor, heard_mark, account_now, accounts_of}

@@ -21,9 +21,9 @@ use Rattle.sift_mission.specs.laws.Configs.{has-reader}
 use Rattle.sift_mission.specs.laws.Silent.{not_held}
 use Rattle.sift_mission.specs.laws.Calls.{call_is}
 use Rattle.sift_conduct.specs.Conduct.{Account, Places, UnitFrame, unit_frame, polled, reading_by}
-use Rattle.sift_memory.specs.Memory.{Memory, place_at, reading_at, polled_at, poll_of, note}
-use Rattle.sift_memory.specs.Conditions.{IsShaped}
-use Rattle.sift_memory.specs.laws.Sets.{holds-gathered}
+use Rattle.sift_unit_frame.specs.Memory.{Memory, place_at, reading_at, polled_at, poll_of, note}
+use Rattle.sift_unit_frame.specs.Conditions.{IsShaped}
+use Rattle.sift_unit_frame.specs.laws.Sets.{holds-gathered}
 use Rattle.sift_unit.specs.Remembered.{Heard, Ran, polled_words, with_clock}
 
 module _ (m : FlownMission) (us : List ℕ) (u f : ℕ) (clk : ℤ) (a : Account) (h : Places) (last : List ℕ) (fit : Fits m) (config : IsConfigOf m us) (member : has us u ≡ true) where

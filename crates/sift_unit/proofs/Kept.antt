@@ -9,10 +9,10 @@ use Rattle.sift_base.specs.laws.ReadBack.{false_last}
 use Rattle.sift_mission.specs.Data.{FlownMission}
 use Rattle.sift_mission.specs.Fits.{is_caught_in}
 use Rattle.sift_conduct.specs.Conduct.{Account, Places, UnitFrame, unit_frame}
-use Rattle.sift_memory.specs.Memory.{Memory, note, run, is_made_by}
-use Rattle.sift_memory.specs.Tidings.{busy_account}
-use Rattle.sift_memory.specs.Conditions.{IsShaped}
-use Rattle.sift_memory.specs.laws.Sets.{renewed-other, length-renewed}
+use Rattle.sift_unit_frame.specs.Memory.{Memory, note, run, is_made_by}
+use Rattle.sift_unit_frame.specs.Tidings.{busy_account}
+use Rattle.sift_unit_frame.specs.Conditions.{IsShaped}
+use Rattle.sift_unit_frame.specs.laws.Sets.{renewed-other, length-renewed}
 use Rattle.sift_unit.specs.Remembered.{Heard, Ran, Matches, Settled}
 
 module _ (m : FlownMission) (us : List ℕ) (u f : ℕ) (clk : ℤ) (a : Account) (h : Places) (last : List ℕ) where

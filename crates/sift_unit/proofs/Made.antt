@@ -13,10 +13,10 @@ use Rattle.sift_mission.specs.Fits.{Fits}
 use Rattle.sift_mission.specs.laws.Silent.{not_held}
 use Rattle.sift_mission.specs.laws.Calls.{call_of}
 use Rattle.sift_conduct.specs.Conduct.{Account, Places, UnitFrame, unit_frame, own_word}
-use Rattle.sift_memory.specs.Memory.{Memory, run, is_made_by}
-use Rattle.sift_memory.specs.Tidings.{word_now}
-use Rattle.sift_memory.specs.Conditions.{IsShaped}
-use Rattle.sift_memory.specs.laws.Sets.{renewed-here}
+use Rattle.sift_unit_frame.specs.Memory.{Memory, run, is_made_by}
+use Rattle.sift_unit_frame.specs.Tidings.{word_now}
+use Rattle.sift_unit_frame.specs.Conditions.{IsShaped}
+use Rattle.sift_unit_frame.specs.laws.Sets.{renewed-here}
 use Rattle.sift_unit.specs.Remembered.{Heard, Ran, Matches, Settled}
 use Rattle.sift_unit.proofs.Kept.{made_long}
 

@@ -10,8 +10,8 @@ use Rattle.sift_mission.specs.Data.{FlownMission}
 use Rattle.sift_mission.specs.Slots.{is_slot}
 use Rattle.sift_mission.specs.Fits.{Fits, is_caught_in}
 use Rattle.sift_mission.specs.laws.Tasks.{few_tasks}
-use Rattle.sift_memory.specs.Memory.{Memory, note}
-use Rattle.sift_memory.specs.Conditions.{IsShaped}
+use Rattle.sift_unit_frame.specs.Memory.{Memory, note}
+use Rattle.sift_unit_frame.specs.Conditions.{IsShaped}
 use Rattle.sift_mission.specs.Stops.{spot}
 use Rattle.sift_unit.specs.Remembered.{Heard}
 use Rattle.sift_unit.specs.Desk.{Desk, cursor, heard_mark, run_mark}

@@ -7,7 +7,7 @@ use Rattle.sift_base.specs.Units.{has, unit_limit}
 use Rattle.sift_mission.specs.Data.{FlownMission}
 use Rattle.sift_mission.specs.Fits.{Fits}
 use Rattle.sift_mission.specs.laws.Tasks.{few_tasks}
-use Rattle.sift_memory.specs.Memory.{Memory}
+use Rattle.sift_unit_frame.specs.Memory.{Memory}
 use Rattle.sift_mission.specs.Stops.{spot, IsNothingBetween}
 use Rattle.sift_unit.specs.Desk.{Desk, cursor, is_hearing, is_saying, is_call, is_end, moved}
 use Rattle.sift_unit.specs.Going.{InRange}

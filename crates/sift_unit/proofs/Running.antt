@@ -6,7 +6,7 @@ use Rattle.sift_buffer.specs.Conduct.{Conduct as Acts}
 use Rattle.sift_mission.specs.Data.{FlownMission}
 use Rattle.sift_mission.specs.Fits.{Fits}
 use Rattle.sift_mission.specs.laws.Tasks.{few_tasks}
-use Rattle.sift_memory.specs.Memory.{Memory, run}
+use Rattle.sift_unit_frame.specs.Memory.{Memory, run}
 use Rattle.sift_unit.specs.Desk.{Desk}
 use Rattle.sift_unit.specs.Going.{Accounts, Words, Fate, InRange, Going}
 use Rattle.sift_unit.proofs.Kept.{heard_run, ran_kept, matches_run, settled_run, shape_run}

@@ -12,7 +12,7 @@ use Rattle.sift_mission.specs.laws.Calls.{call_of}
 use Rattle.sift_mission.specs.laws.Tasks.{few_tasks}
 use Rattle.sift_conduct.specs.Conduct.{own_word, unit_frame}
 use Rattle.sift_conduct.specs.Acts.{heard_places}
-use Rattle.sift_memory.specs.Tidings.{word_now, word_to}
+use Rattle.sift_unit_frame.specs.Tidings.{word_now, word_to}
 use Rattle.sift_mission.specs.Stops.{spot, say_spot}
 use Rattle.sift_unit.specs.Desk.{Desk, cursor, is_saying, accounts_of, moved}
 use Rattle.sift_unit.specs.Going.{Accounts, Words, word_in_frame, ActsTo, Fate, Meets, Going, desk_frame}

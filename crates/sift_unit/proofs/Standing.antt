@@ -12,8 +12,8 @@ use Rattle.sift_mission.specs.Data.{FlownMission, IsConfigOf}
 use Rattle.sift_conduct.specs.Conduct.{Account}
 use Rattle.sift_conduct.specs.Frames.{last_of, BeginConduct}
 use Rattle.sift_conduct.specs.Acts.{heard_places}
-use Rattle.sift_memory.specs.Memory.{Memory}
-use Rattle.sift_memory.specs.Tidings.{busy_account, idle_account}
+use Rattle.sift_unit_frame.specs.Memory.{Memory}
+use Rattle.sift_unit_frame.specs.Tidings.{busy_account, idle_account}
 use Rattle.sift_unit.specs.Desk.{Desk, cursor, account_now, accounts_of}
 use Rattle.sift_unit.specs.Going.{Accounts, Agrees, Fate, InRange}
 use Rattle.sift_unit.proofs.Kept.{matches_own}

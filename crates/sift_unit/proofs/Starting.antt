@@ -8,8 +8,8 @@ use Rattle.sift_mission.specs.Data.{FlownMission}
 use Rattle.sift_mission.specs.Slots.{calls}
 use Rattle.sift_conduct.specs.Acts.{stamp_and_moment}
 use Rattle.sift_mission.specs.Fits.{Fits}
-use Rattle.sift_memory.specs.Memory.{Memory}
-use Rattle.sift_memory.specs.Conditions.{IsShaped}
+use Rattle.sift_unit_frame.specs.Memory.{Memory}
+use Rattle.sift_unit_frame.specs.Conditions.{IsShaped}
 use Rattle.sift_mission.specs.Stops.{say_spot, hear_spot}
 use Rattle.sift_unit.specs.Desk.{Desk, cursor, is_end, first_desk, ended_desk}
 use Rattle.sift_unit.specs.Going.{Going}

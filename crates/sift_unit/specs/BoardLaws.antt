@@ -7,8 +7,8 @@ use Rattle.sift_mission.specs.Data.{FlownMission}
 use Rattle.sift_mission.specs.Fits.{Fits}
 use Rattle.sift_conduct.specs.Conduct.{Account}
 use Rattle.sift_conduct.specs.Acts.{BoardKeeps}
-use Rattle.sift_memory.specs.Memory.{Memory}
-use Rattle.sift_memory.specs.Conditions.{IsShaped}
+use Rattle.sift_unit_frame.specs.Memory.{Memory}
+use Rattle.sift_unit_frame.specs.Conditions.{IsShaped}
 use Rattle.sift_mission.specs.Stops.{spot, IsNothingBetween}
 use Rattle.sift_unit.specs.Desk.{Desk, cursor, is_end, account_now, accounts_of, first_desk, ended_desk, moved}
 use Rattle.sift_unit.specs.Going.{Going}

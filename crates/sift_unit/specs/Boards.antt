@@ -14,8 +14,8 @@ use Rattle.sift_conduct.specs.Conduct.{account_of}
 use Rattle.sift_conduct.specs.Acts.{BoardKeeps, IsUnderway}
 use Rattle.sift_conduct.specs.declared.account.Account.{Account as TheAccount}
 use Rattle.sift_mission.specs.Stops.{part_of}
-use Rattle.sift_memory.specs.Conditions.{IsShaped}
-use Rattle.sift_memory.specs.Memories.{memory_of}
+use Rattle.sift_unit_frame.specs.Conditions.{IsShaped}
+use Rattle.sift_unit_frame.specs.Memories.{memory_of}
 use Rattle.sift_unit.specs.Keeping.{KeepsAs, HasFlown, IsFresh}
 use Rattle.sift_unit.specs.Desk.{Desk, cursor, first_desk, accounts_of}
 use Rattle.sift_unit.specs.Going.{Going}

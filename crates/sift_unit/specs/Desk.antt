@@ -5,8 +5,8 @@ use Rattle.sift_base.specs.declared.slot.Slot.TheVariants.{Report}
 use Rattle.sift_mission.specs.Data.{FlownMission}
 use Rattle.sift_mission.specs.Slots.{calls}
 use Rattle.sift_conduct.specs.Conduct.{Account}
-use Rattle.sift_memory.specs.Memory.{Memory}
-use Rattle.sift_memory.specs.Tidings.{frame_account}
+use Rattle.sift_unit_frame.specs.Memory.{Memory}
+use Rattle.sift_unit_frame.specs.Tidings.{frame_account}
 use Rattle.sift_mission.specs.Stops.{spot}
 
 -- a board: its unit; the place at which it stands, by frame, subframe, part, slot and other unit; its configuration, its clock's offset and

@@ -9,8 +9,8 @@ use Rattle.sift_mission.specs.Slots.{is_slot, calls, stamp_of, heard_at}
 use Rattle.sift_conduct.specs.Conduct.{Account, Places, UnitFrame, unit_frame, own_word, Conduct}
 use Rattle.sift_conduct.specs.Frames.{last_of, BeginConduct, IdleConduct}
 use Rattle.sift_conduct.specs.Acts.{stamp_and_moment}
-use Rattle.sift_memory.specs.Memory.{Memory, place_at}
-use Rattle.sift_memory.specs.Conditions.{IsShaped}
+use Rattle.sift_unit_frame.specs.Memory.{Memory, place_at}
+use Rattle.sift_unit_frame.specs.Conditions.{IsShaped}
 use Rattle.sift_mission.specs.Stops.{hear_spot, say_spot}
 use Rattle.sift_unit.specs.Remembered.{Heard, Ran, Matches, Settled}
 use Rattle.sift_unit.specs.Reach.{IsNearIn, IsNear}

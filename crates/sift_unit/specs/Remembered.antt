@@ -10,8 +10,8 @@ use Rattle.sift_clock.specs.Correction.{corrected_offset}
 use Rattle.sift_mission.specs.Data.{FlownMission}
 use Rattle.sift_mission.specs.Slots.{executors}
 use Rattle.sift_conduct.specs.Conduct.{Account, UnitFrame, input_of, made, polled, voted, reading_by, clock_catches}
-use Rattle.sift_memory.specs.Memory.{Memory, place_at, units_at}
-use Rattle.sift_memory.specs.Tidings.{bad_now}
+use Rattle.sift_unit_frame.specs.Memory.{Memory, place_at, units_at}
+use Rattle.sift_unit_frame.specs.Tidings.{bad_now}
 
 -- the words of a poll, as the equations of conduct have them
 abbrev pub polled_words : UnitFrame → ℕ → List (Option ℕ)

@@ -5,8 +5,8 @@ ghost use Rattle.std.specs.Prelude.{◌≡◌, ◌<◌, ◌≤◌, length, slice
 use sift_base::{UnitId, Word};
 use sift_conduct::Account;
 use sift_config::Config;
-use sift_memory::Memory;
 use sift_mission::Part;
+use sift_unit_frame::Memory;
 
 /// One unit in a flight: where it stands, what it remembers of the frame, and its accounts of the
 /// frames that it has ended.

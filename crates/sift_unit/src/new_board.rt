@@ -7,8 +7,8 @@ ghost use Rattle.sift_unit.specs.Boards.{IsNewBoard};
 
 use crate::board::Board;
 use sift_base::{NoMemory, UnitId};
-use sift_memory::Memory;
 use sift_mission::{Mission, Part, a_mission_fits};
+use sift_unit_frame::Memory;
 use std::alloc::Global;
 
 impl Board {

@@ -4,7 +4,7 @@ ghost use Rattle.std.specs.Prelude.{◌≡◌, ◌<◌, ◌+◌, ◌*◌, ℕ, [
 ghost use Rattle.sift_buffer.specs.Conditions.{MayTurn};
 ghost use Rattle.sift_buffer.specs.Views.{Turns};
 ghost use Rattle.sift_mission.specs.Parts.{flown_of};
-ghost use Rattle.sift_memory.specs.Conditions.{IsSlotOfFrame};
+ghost use Rattle.sift_unit_frame.specs.Conditions.{IsSlotOfFrame};
 ghost use Rattle.sift_unit.specs.Desk.{is_hearing as at_hearing, is_saying as at_saying, is_end as at_end};
 ghost use Rattle.sift_unit.specs.Stepping.{Steps, HasMoved};
 ghost use Rattle.sift_unit.specs.Conditions.{IsInFlight, MayWalk, MayGoOn};

@@ -1,5 +1,5 @@
 use Rattle.std.proofs.Common.{◌∙◌, sym, arith}
-use Rattle.sift_memory.specs.Memories.{memory_of}
+use Rattle.sift_unit_frame.specs.Memories.{memory_of}
 use Rattle.sift_unit.specs.Boards.{desk_of}
 use Rattle.sift_unit.proofs.Passing.{slot_onward, run_onward}
 use Rattle.sift_unit.proofs.board.Board.pass_running.Goals as goal
