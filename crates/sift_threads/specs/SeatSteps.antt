@@ -1,5 +1,5 @@
 -- What single calls of a seat come to.
-use Rattle.std.specs.Prelude.{◌≡◌, ℕ, List, Option, Some, option_map, option_to_list}
+use Rattle.std.specs.Prelude.{◌≡◌, List, Option, Some, option_map, option_to_list}
 use Rattle.sift_buffer.specs.Conduct.{Stray}
 use Rattle.sift_buffer.specs.Views.{View, IsButForStrays}
 use Rattle.sift_rogue.specs.Storms.{Call, Started, Shoots, stray_of}

@@ -1,4 +1,4 @@
-use Rattle.std.proofs.Common.{◌<◌, ℕ, option_map, ap, sym, ◌∙◌, arith}
+use Rattle.std.proofs.Common.{◌<◌, option_map, ap, sym, ◌∙◌, arith}
 use Rattle.sift_config.specs.laws.FirstUnits.{low_unit, unit_low}
 use Rattle.sift_script.specs.declared.script.StormEntry.{StormEntry}
 use Rattle.sift_bus_jobs.proofs.Coming.{comes}
