@@ -1,6 +1,15 @@
-"""How the tools read a file, and end."""
+"""How the tools are called, read a file, and end."""
 import os
+import re
 import sys
+
+TOP = os.path.dirname(os.path.dirname(os.path.dirname(os.path.realpath(__file__))))
+INSTALLED = not os.path.exists(os.path.join(TOP, "tools", "build"))
+
+
+def as_called(words):
+    """Words that name tools as they are called in a clone, with the names that they have here: tools/words is installed as sift-words."""
+    return re.sub(r"\btools/(?=(compare|explain|lint|picture|sweep|words)\b)", "sift-", words) if INSTALLED else words
 
 
 def read_source(name):

@@ -2,6 +2,7 @@
 import places
 import rules
 from documents import text_of
+from files import as_called
 from mission import Mission
 
 
@@ -28,4 +29,4 @@ def without_faults(root):
 
 def refusal(name, refused):
     """What a tool says of a mission that is refused."""
-    return f"{name} is refused: {refused}; tools/explain {name} shows the place"
+    return f"{name} is refused: {refused}; {as_called('tools/explain')} {name} shows the place"
