@@ -139,9 +139,9 @@ def colour_of(task):
 class Page(Drawing):
     """The drawing of all grids, and where a subframe is."""
 
-    def __init__(self, subframes):
-        super().__init__(24)
-        self.cell = max(15.0, min(62.0, 960 / subframes))
+    def __init__(self, subframes, room=960, bottom=24):
+        super().__init__(bottom)
+        self.cell = max(15.0, min(62.0, room / subframes))
 
     def at(self, subframe):
         return round(LEFT + self.cell * subframe, 2)
@@ -156,8 +156,8 @@ class Page(Drawing):
         self.words(round(self.at(subframe) + self.cell / 2, 2), y + 15, shown, 11, ' text-anchor="middle" pointer-events="none"')
 
 
-def draw_grid(page, grid):
-    """The drawing of one size, below what is drawn."""
+def draw_grid(page, grid, notes):
+    """The drawing of one size with notes in lines, below what is drawn."""
     y, fixed = page.bottom, grid.fixed()
     page.words(24, y, grid.head(), 15, ' font-weight="bold"')
     y += 20
@@ -186,7 +186,7 @@ def draw_grid(page, grid):
         more = f' stroke="{colour_of(task)}" stroke-width="2"'
         page.box(task.poll, y + ROW * len(above), "white", task.name, task.letter, f"all vote on {task.name} in subframe {task.poll}", more)
     y += ROW * max((len(grid.polled_in(task.poll)) for task in grid.tasks), default=1)
-    for note in grid.notes():
+    for note in notes:
         y += 17
         page.words(LEFT, y, note, 12)
     page.bottom = y + 40
@@ -195,6 +195,6 @@ def draw_grid(page, grid):
 def svg_of(mission):
     page = Page(mission.subframes)
     for grid in grids_of(mission):
-        draw_grid(page, grid)
+        draw_grid(page, grid, grid.notes())
     width = max(page.at(mission.subframes) + 32, 940)
     return page.svg("a schedule: positions by subframes", width, page.bottom - 16)
