@@ -1,6 +1,7 @@
 % The tables of a mission, for a constraint solver: what docs/tables.md asks of them, what is wished, and what they are best at.
 % tools/place writes the data, and says which aim is sought and what the aims before it came to.
 include "cumulative.mzn";
+include "table.mzn";
 include "gecode.mzn";
 
 % The mission. There is one table for each size of a configuration; positions are those of a table.
@@ -130,31 +131,56 @@ constraint forall (size in SIZE) (cumulative(
 constraint forall (size in SIZE) (
   sum (position in POSITION) (work[size, position]) = sum (task in TASK) (executors[size, task])
   /\ size * most_work[size] >= sum (task in TASK) (executors[size, task]));
-% With as many executors as before, each task whose executor is lost gets another one.
-constraint forall (size in 5..units, task in TASK, lost in 0..size - 1
-  where least_executors[size, task] = most_executors[size, task] /\ least_executors[size - 1, task] = most_executors[size - 1, task]
-  /\ least_executors[size, task] = least_executors[size - 1, task] /\ not ({ size, size - 1 } intersect KEPT != {}))
-  (at[size, task, lost] /\ not shed[size - 1, task] -> changed[size, task, lost]);
+% The positions of a task as one number, and how many losses change its units: of a task with as many executors in the smaller
+% table, all that the two can be stand in a list.
+set of int: NUMBER = 0..pow(2, units) - 1;
+array[NUMBER] of set of POSITION: members = array1d(NUMBER,
+  [{ position | position in POSITION where (number div pow(2, position)) mod 2 = 1 } | number in NUMBER]);
+array[SIZE, TASK] of var NUMBER: positions;
+constraint forall (size in SIZE, task in TASK, position in POSITION) (
+  let { array[NUMBER] of bool: is_member = array1d(NUMBER, [position in members[number] | number in NUMBER]) } in
+  at[size, task, position] = is_member[positions[size, task]]);
+array[5..units, TASK] of var 0..units: losses;
+constraint forall (size in 5..units, task in TASK) (losses[size, task] = sum (lost in POSITION) (changed[size, task, lost]));
+constraint sum (losses) = value[CHANGES];
+array[NUMBER, POSITION] of int: moved = array2d(NUMBER, POSITION, % where a position is lost, and those behind it move up
+  [number mod pow(2, lost) + number div pow(2, lost + 1) * pow(2, lost) | number in NUMBER, lost in POSITION]);
+function int: count_losses(int: size, int: larger, int: smaller) = sum (lost in 0..size - 1) (bool2int(moved[larger, lost] != smaller));
+function array[int] of int: numbers_of(int: size, int: count, bool: may_be_shed) =
+  [number | number in 0..pow(2, size) - 1 where card(members[number]) = count \/ may_be_shed /\ number = 0];
+function array[int, int] of int: pairs_of(int: size, int: count, bool: may_be_shed) =
+  let {
+    array[int] of int: larger = numbers_of(size, count, may_be_shed);
+    array[int] of int: smaller = numbers_of(size - 1, count, may_be_shed)
+  } in array2d(1..length(larger) * length(smaller), 1..3,
+    [[one, other, count_losses(size, one, other)][place] | one in larger, other in smaller, place in 1..3]);
+constraint forall (size in 5..units, count in 3..size - 1, may_be_shed in [false, true] where not (size in KEPT \/ size - 1 in KEPT)) (
+  let { set of int: some = { task | task in TASK where (shed_turn[task] > 0) = may_be_shed /\
+    forall (each in { size, size - 1 }) (least_executors[each, task] = count /\ most_executors[each, task] = count) } } in
+  if some = {} then true else let { array[int, int] of int: pairs = pairs_of(size, count, may_be_shed) } in
+    forall (task in some) (table([positions[size, task], positions[size - 1, task], losses[size, task]], pairs)) endif);
 % Where it is asked for, a task runs in the same subframe at all sizes: then not all tables are tried.
 bool: same_runs;
 constraint same_runs -> forall (size in SIZE diff KEPT, task in TASK)
   (not shed[size, task] /\ not shed[units, task] -> run[size, task] = run[units, task]);
 
-% The search: nothing shed, the least work, the earliest subframes, the first positions. Where tables are given to begin with,
-% each entry stays with a probability in percent, and the others are sought anew.
+% The search: nothing shed, the least work, the earliest subframes, the fewest changes, the first positions. Where tables are
+% given to begin with, each entry stays with a probability in percent, and the others are sought anew.
 array[int] of TASK: urgent; % the tasks, the first with the most that waits for it
 int: kept_percent;
-array[int] of int: before;
-array[SIZE, TASK] of var int: positions = array2d(SIZE, TASK, [sum (position in 0..size - 1) (pow(2, position) * at[size, task, position])
-  | size in SIZE, task in TASK]);
+array[int] of int: given;
+ann: runs_first = int_search([run[size, task] | size in SIZE, task in urgent], smallest, indomain_min);
+ann: changes_first = int_search([[losses[size, task], positions[size, task], positions[size - 1, task]][place]
+  | task in TASK, size in reverse([each | each in 5..units]), place in 1..3], input_order, indomain_min);
 solve
-  :: if kept_percent > 0 then relax_and_reconstruct(array1d(run) ++ array1d(positions), kept_percent, before) else seq_search([]) endif
+  :: if kept_percent > 0 then relax_and_reconstruct(array1d(run) ++ array1d(positions), kept_percent, given) else seq_search([]) endif
   :: seq_search([
     bool_search([shed[size, task] | size in SIZE, task in TASK], input_order, indomain_min),
     if aim = SUBFRAMES then seq_search([]) else int_search(most_work, input_order, indomain_min) endif,
-    if aim = CHANGES /\ not same_runs then seq_search([]) else int_search([run[size, task] | size in SIZE, task in urgent], smallest, indomain_min) endif,
+    if aim = CHANGES /\ not same_runs then seq_search([]) else runs_first endif,
+    if aim = CHANGES then changes_first else seq_search([]) endif,
     bool_search([at[size, task, position] | size in SIZE, task in TASK, position in 0..size - 1], input_order, indomain_max),
-    int_search([run[size, task] | size in SIZE, task in urgent], smallest, indomain_min)])
+    runs_first])
   minimize value[aim];
 
 output [

@@ -172,7 +172,7 @@ class Problem:
 
     # The data of the model.
 
-    def data(self, aim, least, most, same_runs=False, before=None, kept_percent=0):
+    def data(self, aim, least, most, same_runs=False, given=None, kept_percent=0):
         """The text of a data file: the aim that is sought, and bounds of all aims by their names."""
         outline, kept = self.outline, self.kept
         waiting = outline.waiting(outline.tasks)
@@ -203,7 +203,7 @@ class Problem:
             "same_runs": str(same_runs).lower(),
             "urgent": listed(sorted(outline.tasks, key=lambda task: (-waiting[task], task))),
             "kept_percent": kept_percent,
-            "before": listed(numbers_of(before) if before else []),
+            "given": listed(numbers_of(given) if given else []),
         }
         return "".join(f"{name} = {value};\n" for name, value in entries.items())
 

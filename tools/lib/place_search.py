@@ -9,7 +9,7 @@ from place_wishes import AIMS
 
 NAMES = {"rules": "ROOM", "subframes": "SUBFRAMES", "readers": "READERS", "work": "WORK", "changes": "CHANGES"}
 KEPT_PERCENT = 85  # of the entries of tables that are to be made better; the others are loosened
-SHORTEST = 1.0  # seconds of a search
+SHORTEST = 0.4  # seconds of a search
 
 
 def aims_of(wishes):
@@ -45,15 +45,18 @@ class Search:
     def __init__(self, problem, seconds):
         self.problem = problem
         self.ends = time.monotonic() + seconds
+        self.beside = 0.0  # seconds that a call takes beside the search
         self.found = Found()
 
     def left(self, part=1.0):
-        """Some of the seconds that are left."""
-        return max(SHORTEST, (self.ends - time.monotonic()) * part)
+        """Some of the seconds that are left for the search of a call."""
+        return max(SHORTEST, (self.ends - time.monotonic()) * part - self.beside)
 
     def solve(self, part, aim, bounds, most, **more):
         """Seeks for a part of the time that is left, and keeps what is found."""
-        answer = solve(self.problem, self.left(part), aim, bounds, most, **more)
+        seconds, begun = self.left(part), time.monotonic()
+        answer = solve(self.problem, seconds, aim, bounds, most, **more)
+        self.beside = max(0.0, time.monotonic() - begun - seconds, self.beside)
         if answer.tables:
             self.found.tables = answer.tables
             self.found.values = values_of(self.problem.outline, self.problem.wishes, answer.tables)
@@ -118,7 +121,7 @@ class Search:
         better = self.found.values[aim] - 1
         if complete or better < bounds[aim] or self.left() <= SHORTEST:
             return
-        self.solve(1.0, aim, bounds, {**most, aim: better}, before=self.found.tables, kept_percent=KEPT_PERCENT)
+        self.solve(1.0, aim, bounds, {**most, aim: better}, given=self.found.tables, kept_percent=KEPT_PERCENT)
 
 
 def place(outline, wishes, kept, seconds):

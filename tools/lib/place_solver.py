@@ -28,14 +28,14 @@ def is_there():
     return shutil.which("minizinc") is not None
 
 
-def solve(problem, seconds, aim, least, most, same_runs=False, before=None, kept_percent=0):
+def solve(problem, seconds, aim, least, most, same_runs=False, given=None, kept_percent=0):
     """Seeks tables for so many seconds: see Problem.data for the words."""
     if not is_there():
         raise NoSolver(INSTALL)
     with tempfile.NamedTemporaryFile("w", suffix=".dzn", encoding="ascii") as data:
-        data.write(problem.data(aim, least, most, same_runs, before, kept_percent))
+        data.write(problem.data(aim, least, most, same_runs, given, kept_percent))
         data.flush()
-        words = ["minizinc", "--solver", "gecode", "--time-limit", str(max(1, int(seconds * 1000))), "--all-solutions"]
+        words = ["minizinc", "--solver", "gecode", "--solver-time-limit", str(max(1, int(seconds * 1000))), "--all-solutions"]
         words += ["--fzn-flags", f"-restart constant -restart-base {RESTART}"] if kept_percent else []
         done = subprocess.run([*words, MODEL, data.name], stdin=subprocess.DEVNULL, capture_output=True, text=True, check=False)
     lines = done.stdout.splitlines()
