@@ -1,7 +1,7 @@
 """What tools/place says of the tables that it found: what each aim and each wish came to."""
 from place_problem import changed, missed, work
 from place_search import aims_of
-from place_wishes import MOST_EXECUTORS, positions_of
+from place_wishes import positions_of
 from slots import FEWEST
 from values import counted
 
@@ -10,7 +10,7 @@ def proof_of(value, bound, least="the least that there can be"):
     """What is known of a value: whether none is less."""
     if value == bound:
         return least
-    return f"none is below {bound}, and the time ended with a gap of {value - bound}"
+    return f"none can be below {bound}, and the time ended with a gap of {value - bound}"
 
 
 def aim_lines(outline, wishes, found):
@@ -48,13 +48,13 @@ def shed_told(outline, wishes, found):
     if not told:
         return "nothing"
     last = found.values["SHED"] == found.bounds["SHED"] and found.values["TURNS"] > found.bounds["TURNS"]
-    return f"{'; '.join(told)}: {proof_of(found.values['SHED'], found.bounds['SHED'])}{', in perhaps another order' if last else ''}"
+    return f"{', and '.join(told)}; {proof_of(found.values['SHED'], found.bounds['SHED'])}{', in perhaps another order' if last else ''}"
 
 
 def work_told(outline, wishes, found):
     most = [max(work(outline, found.tables, size)) for size in outline.sizes]
     told = ", ".join(f"{tasks} at {size}" for tasks, size in zip(most, outline.sizes))
-    return f"at most {told} tasks a position: {proof_of(found.values['WORK'], found.bounds['WORK'])}"
+    return f"the most of a position: {told}; {proof_of(found.values['WORK'], found.bounds['WORK'])}"
 
 
 def changes_told(outline, wishes, found):
@@ -63,7 +63,7 @@ def changes_told(outline, wishes, found):
         return "no unit can be lost"
     counts = [len(changed(outline, found.tables, *loss)) for loss in losses]
     told = f"{sum(counts)} over {counted(len(losses), 'loss', 'losses')} of a unit, at most {max(counts)} by one"
-    return f"{told}: {proof_of(found.values['CHANGES'], found.bounds['CHANGES'])}"
+    return f"{told}; {proof_of(found.values['CHANGES'], found.bounds['CHANGES'])}"
 
 
 # Wishes.
@@ -87,22 +87,19 @@ def is_kept(wish, outline, tables, kept):
 def wish_lines(outline, wishes, tables, kept):
     """A line for each wish: what it came to."""
     for wish in wishes.wishes:
-        yield wish.name, ("kept" if is_kept(wish, outline, tables, kept) else "NOT KEPT") + more_of(wish, outline, tables)
+        came_to = "kept" if is_kept(wish, outline, tables, kept) else "NOT KEPT"
+        yield wish.name, came_to + (f", with {tables.subframes}" if wish.kind == "subframes" else more_of(wish, outline))
     for task in wishes.may_shed:
         sizes = [size for size in outline.sizes if task in tables.shed(size)]
         yield f"{outline.names[task]} may be shed", f"shed at {', '.join(map(str, sizes))}" if sizes else "not shed"
 
 
-def more_of(wish, outline, tables):
-    """What a wish about a unit, or about all positions, came to."""
-    if wish.kind == "subframes":
-        return f", with {tables.subframes}"
-    if wish.kind == "executors" and wish.most == MOST_EXECUTORS:
-        return ", by all positions"
+def more_of(wish, outline):
+    """What a wish about a unit means for tables: the positions that the unit can have."""
     if wish.kind not in ("run", "not_run"):
         return ""
     at = [(size, positions_of(wish.unit, size, outline.units)) for size in wish.sizes]
-    return "; as the unit can have " + ", ".join(f"{''.join(map(str, positions))} at {size}" for size, positions in at)
+    return "; it can have the position " + ", ".join(f"{''.join(map(str, positions))} at {size}" for size, positions in at)
 
 
 # A campaign before and after.

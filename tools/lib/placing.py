@@ -7,7 +7,7 @@ import tempfile
 import rules
 from files import read_source
 from loading import Refused, load, refusal
-from place_account import aim_lines, campaign_lines, is_kept, wish_lines
+from place_account import aim_lines, campaign_lines, is_kept, more_of, wish_lines
 from place_document import NoTable, csv_text, put, read_csv, rows_of_mission, tables_text
 from place_problem import Outline, Problem
 from place_search import NotFound, NoTables, Wishing, place as search
@@ -125,9 +125,9 @@ def conflict_told(work, wishes):
     conflict = Wishing(work.outline, wishes, work.own, max(DOUBT, work.options.seconds)).conflict()
     head = "no tables keep all wishes. The fewest that can't hold together:" if conflict.smallest else (
         "no tables keep all wishes. These can't hold together, and perhaps fewer can't; the time ended:")
-    told = [f"  {wish.name}" for wish in conflict.wishes]
+    told = [f"  {wish.name}{more_of(wish, work.outline)}" for wish in conflict.wishes]
     free = [work.outline.names[task] for task in work.outline.tasks if task not in wishes.may_shed]
-    more = ["beside them " + (f"{', '.join(free)} mustn't be shed" if free else "all tasks may be shed")]
+    more = [f"and no wish lets one of these be shed: {', '.join(free)}"] if free else []
     return "\n".join([head, *told, *more])
 
 
