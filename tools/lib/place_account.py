@@ -35,7 +35,7 @@ def readers_told(outline, wishes, found):
     told = f"{all_readers - len(lost)} of {all_readers} run a task that reads their sensor"
     if lost:
         told += ": not those of " + ", ".join(f"{outline.sensors[sensor]} at {size}" for size, sensor in lost)
-        told += f"; {proof_of(len(lost), found.bounds['READERS'], 'fewer there can not be')}"
+        told += f"; {proof_of(len(lost), found.bounds['READERS'], 'the fewest that there can be')}"
     return told
 
 
@@ -54,7 +54,7 @@ def shed_told(outline, wishes, found):
 def work_told(outline, wishes, found):
     most = [max(work(outline, found.tables, size)) for size in outline.sizes]
     told = ", ".join(f"{tasks} at {size}" for tasks, size in zip(most, outline.sizes))
-    return f"the most of a position: {told}; {proof_of(found.values['WORK'], found.bounds['WORK'])}"
+    return f"the most tasks of a position: {told}; {proof_of(found.values['WORK'], found.bounds['WORK'])}"
 
 
 def changes_told(outline, wishes, found):

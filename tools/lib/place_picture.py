@@ -4,7 +4,7 @@ import textwrap
 
 from schedule_picture import Page, draw_grid, grids_of, text_grid
 
-ROOM, GAP = 560, 48  # of the subframes of a schedule; between the two
+ROOM, GAP, LINE = 560, 48, 17  # of the subframes of a schedule; between the two; of a note
 
 
 def pairs_of(schedules):
@@ -21,17 +21,29 @@ def head_of(title, mission):
     return f"{title}: {mission.subframes} subframes"
 
 
+def letters_of(mission):
+    """The letters of the tasks, which stand where a name has no room."""
+    return ", ".join(f"{chr(ord('A') + number)} {task.get('name').data}" for number, task in enumerate(mission.tasks))
+
+
+def wrapped(words, width):
+    """Lines of at most so many pixels, about, of the size of the notes."""
+    return textwrap.wrap(words, int(width / 6.6), subsequent_indent="    ")
+
+
 def svg_of(schedules):
     """An SVG of schedules, each a title and a mission, side by side."""
     most = max(mission.subframes for _, mission in schedules)
-    pages = [Page(most, ROOM, 64) for _ in schedules]
-    width = max(pages[0].at(most), 620) + GAP
+    width = max(Page(most, ROOM).at(most), 620) + GAP
+    letters = wrapped(letters_of(schedules[0][1]), width * len(schedules) - GAP)
+    pages = [Page(most, ROOM, 64 + LINE * len(letters)) for _ in schedules]
     for page, (title, mission) in zip(pages, schedules):
         page.words(24, 28, head_of(title, mission), 18, ' font-weight="bold"')
+    for number, line in enumerate(letters):
+        pages[0].words(24, 48 + LINE * number, line, 12)
     for grids in pairs_of(schedules):
         for page, grid in zip(pages, grids):
-            lines = [line for note in notes_of(grid) for line in textwrap.wrap(note, int((width - GAP - 104) / 6.6), subsequent_indent="    ")]
-            draw_grid(page, grid, lines)
+            draw_grid(page, grid, [line for note in notes_of(grid) for line in wrapped(note, width - GAP - 104)])
         for page in pages:
             page.bottom = max(each.bottom for each in pages)
     whole = pages[0]
@@ -48,8 +60,7 @@ def text_of(schedules):
     lines = []
     for group in groups:
         lines += ["".join(line.ljust(width) for line in row).rstrip() for row in itertools.zip_longest(*group, fillvalue="")]
-    names = [task.get("name").data for task in schedules[0][1].tasks]
-    return "\n".join([*lines, ", ".join(f"{chr(ord('A') + number)} {name}" for number, name in enumerate(names))]) + "\n"
+    return "\n".join([*lines, letters_of(schedules[0][1])]) + "\n"
 
 
 def rows_of(grid):

@@ -126,7 +126,7 @@ class Problem:
             for size, task in keys:
                 sets[size, task] |= set(positions_of(wish.unit, size, self.outline.units))
 
-    def running(self, size, none_shed=False):
+    def running(self, size, none_shed):
         """The tasks that the table for a size runs for certain."""
         if size in self.kept:
             return [task for task in self.outline.tasks if self.kept[size][task] != SHED]
@@ -135,7 +135,7 @@ class Problem:
 
     # Bounds that no tables can be below, where nothing is shed, or whatever is.
 
-    def bounds(self, none_shed=False):
+    def bounds(self, none_shed):
         """By the names of the model's aims."""
         found = dict.fromkeys(AIMS, 0)
         found["SUBFRAMES"] = max([self.subframes[0], *(self.least_subframes(size, none_shed) for size in self.outline.sizes)])

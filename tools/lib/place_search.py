@@ -62,10 +62,6 @@ class Search:
             self.found.values = values_of(self.problem.outline, self.problem.wishes, answer.tables)
         return answer
 
-    def bounds(self, reached):
-        """Bounds of all aims behind those that were reached."""
-        return self.problem.bounds(none_shed=reached.get("SHED") == 0)
-
     def run(self):
         """The best tables; or NoTables, or NotFound."""
         aims = aims_of(self.problem.wishes)
@@ -87,7 +83,8 @@ class Search:
         """Tries whether all aims before the last can be as good as their bounds say; and if so, seeks the last alone."""
         last = aims[-1]
         between = [aim for aim in aims[:-1] if aim not in reached]
-        bounds = self.problem.bounds(none_shed="SHED" in between or reached.get("SHED") == 0)
+        # Of the aims behind SHED the bounds are those where nothing is shed.
+        bounds = {aim: self.problem.bounds("SHED" in aims[: aims.index(aim)])[aim] for aim in aims}
         most = {**reached, **{aim: bounds[aim] for aim in between}}
         answer = self.solve(0.25, last, bounds, most)
         if not answer.tables and not answer.complete:
@@ -102,7 +99,7 @@ class Search:
 
     def reach(self, aim, reached, part):
         """Seeks the least of an aim."""
-        bounds = self.bounds(reached)
+        bounds = self.problem.bounds(reached.get("SHED") == 0)
         if self.found.values.get(aim) == bounds[aim]:
             self.note(aim, reached, bounds[aim])
             return
@@ -159,7 +156,7 @@ class Wishing:
         if seconds < SHORTEST:
             raise Doubt
         problem = Problem(self.outline, self.wishes, some, self.kept)
-        answer = solve(problem, seconds, "ROOM", problem.bounds(), {})
+        answer = solve(problem, seconds, "ROOM", problem.bounds(False), {})
         if not answer.tables and not answer.complete:
             raise Doubt
         return answer.tables is not None
