@@ -44,10 +44,11 @@ _sift_tool() {
   local word=${COMP_WORDS[COMP_CWORD]} options=--help
   case ${COMP_WORDS[COMP_CWORD - 1]} in
     --kinds) mapfile -t COMPREPLY < <(compgen -W 'wrong silence two-faces' -- "$word"); return ;;
-    --from | --limit | --batch | --jobs | --sshlogin | --replay) COMPREPLY=(); return ;;
+    --from | --limit | --batch | --jobs | --sshlogin | --replay | --seconds | --size) COMPREPLY=(); return ;;
   esac
   case ${COMP_WORDS[0]##*/} in
     sift-picture) options+=' --text --schedule --sweep' ;;
+    sift-place) options+=' --write --seconds --picture --sweep --to-csv --from-csv --size --program' ;;
     sift-sweep) options+=' --single --pairs --kinds --from --limit --out --program --batch --jobs --sshlogin --resume --replay' ;;
     sift-words) options+=' --json --plot' ;;
   esac
@@ -58,4 +59,4 @@ _sift_tool() {
     mapfile -t COMPREPLY < <(compgen -f -- "$word")
   fi
 }
-complete -F _sift_tool sift-compare sift-explain sift-lint sift-picture sift-sweep sift-words
+complete -F _sift_tool sift-compare sift-explain sift-lint sift-picture sift-place sift-sweep sift-words
