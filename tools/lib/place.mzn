@@ -1,7 +1,8 @@
 % The tables of a mission, for a constraint solver: what docs/tables.md asks of them, what is wished, and what they are best at.
 % tools/place writes the data, and says which aim is sought and what the aims before it came to.
 include "cumulative.mzn";
-include "table.mzn";
+include "all_different_int.mzn"; % by these names Gecode has its own ones
+include "table_int.mzn";
 include "gecode.mzn";
 
 % The mission. There is one table for each size of a configuration; positions are those of a table.
@@ -122,11 +123,14 @@ constraint forall (each in AIM) (least[each] <= value[each] /\ value[each] <= mo
 % What follows from all this, or takes nothing from it, and shortens the search.
 % No aim gains by a later poll.
 constraint forall (size in SIZE diff KEPT, task in TASK) (not shed[size, task] -> poll[size, task] = run[size, task] + 2);
-% In one subframe no more executors run than there are positions. A task that is shed gets a subframe of its own behind the frame.
-constraint forall (size in SIZE) (cumulative(
-  [if shed_turn[task] > 0 \/ size in KEPT then run[size, task] + bool2int(shed[size, task]) * (100 + task) else run[size, task] endif
-    | task in TASK],
-  [1 | task in TASK], [max(3, least_executors[size, task]) * bool2int(not (size in KEPT)) | task in TASK], size));
+% In one subframe no more executors run than there are positions: no more than some whole tasks have. Of two tasks with more than
+% half of the positions each, only one. A task that is shed gets a subframe of its own behind the frame.
+array[SIZE] of int: room;
+array[SIZE, TASK] of var int: turn = array2d(SIZE, TASK, [run[size, task] +
+  if shed_turn[task] > 0 \/ size in KEPT then bool2int(shed[size, task]) * (100 + task) else 0 endif | size in SIZE, task in TASK]);
+constraint forall (size in SIZE diff KEPT) (
+  cumulative([turn[size, task] | task in TASK], [1 | task in TASK], [least_executors[size, task] | task in TASK], room[size])
+  /\ all_different_int([turn[size, task] | task in TASK where 2 * least_executors[size, task] > size]));
 % All positions together have the work of all tasks.
 constraint forall (size in SIZE) (
   sum (position in POSITION) (work[size, position]) = sum (task in TASK) (executors[size, task])
@@ -158,14 +162,15 @@ constraint forall (size in 5..units, count in 3..size - 1, may_be_shed in [false
   let { set of int: some = { task | task in TASK where (shed_turn[task] > 0) = may_be_shed /\
     forall (each in { size, size - 1 }) (least_executors[each, task] = count /\ most_executors[each, task] = count) } } in
   if some = {} then true else let { array[int, int] of int: pairs = pairs_of(size, count, may_be_shed) } in
-    forall (task in some) (table([positions[size, task], positions[size - 1, task], losses[size, task]], pairs)) endif);
+    forall (task in some) (table_int([positions[size, task], positions[size - 1, task], losses[size, task]], pairs)) endif);
 % Where it is asked for, a task runs in the same subframe at all sizes: then not all tables are tried.
 bool: same_runs;
 constraint same_runs -> forall (size in SIZE diff KEPT, task in TASK)
   (not shed[size, task] /\ not shed[units, task] -> run[size, task] = run[units, task]);
 
-% The search: nothing shed, the least work, the earliest subframes, the fewest changes, the first positions. Where tables are
-% given to begin with, each entry stays with a probability in percent, and the others are sought anew.
+% The search: nothing shed, or all that may be where that makes room or less work, no reader missed, the least work, the earliest
+% subframes, the fewest changes, the first positions. Where tables are given to begin with, each entry stays with a probability
+% in percent, and the others are sought anew.
 array[int] of TASK: urgent; % the tasks, the first with the most that waits for it
 int: kept_percent;
 array[int] of int: given;
@@ -175,8 +180,9 @@ ann: changes_first = int_search([[losses[size, task], positions[size, task], pos
 solve
   :: if kept_percent > 0 then relax_and_reconstruct(array1d(run) ++ array1d(positions), kept_percent, given) else seq_search([]) endif
   :: seq_search([
-    bool_search([shed[size, task] | size in SIZE, task in TASK], input_order, indomain_min),
-    if aim = SUBFRAMES then seq_search([]) else int_search(most_work, input_order, indomain_min) endif,
+    bool_search([shed[size, task] | size in SIZE, task in TASK], input_order, if aim in { SUBFRAMES, WORK } then indomain_max else indomain_min endif),
+    if aim = READERS then bool_search(array1d(missed), input_order, indomain_min) else seq_search([]) endif,
+    if aim in { WORK, CHANGES } then int_search(most_work, input_order, indomain_min) else seq_search([]) endif,
     if aim = CHANGES /\ not same_runs then seq_search([]) else runs_first endif,
     if aim = CHANGES then changes_first else seq_search([]) endif,
     bool_search([at[size, task, position] | size in SIZE, task in TASK, position in 0..size - 1], input_order, indomain_max),

@@ -139,6 +139,7 @@ class Problem:
         """By the names of the model's aims."""
         found = dict.fromkeys(AIMS, 0)
         found["SUBFRAMES"] = max([self.subframes[0], *(self.least_subframes(size, none_shed) for size in self.outline.sizes)])
+        found["READERS"] = sum(self.least_missed(size) for size in self.outline.sizes)
         found["WORK"] = sum(self.least_work(size, none_shed) for size in self.outline.sizes)
         found["CHANGES"] = sum(self.least_changes(size, none_shed) for size in self.outline.sizes if size > FEWEST)
         return found
@@ -153,6 +154,17 @@ class Problem:
         chain = max(self.outline.waiting(tasks).values(), default=0)
         last_run = FIRST_RUN + max(POLL_DELAY * (chain - 1), at_once - 1)
         return last_run + POLL_DELAY + REPORT_LEAD if tasks else LEAST_SUBFRAMES
+
+    def least_missed(self, size):
+        """By how many readers the executors of each task can be."""
+        outline = self.outline
+        read = [sensor for sensor in range(len(outline.sensors)) if outline.readers(sensor)]
+        caught = 0
+        for task in outline.tasks:
+            free = [sensor % size for sensor in outline.senses[task] if sensor % size not in self.not_runs[size, task]]
+            most = self.executors[size, task][1]
+            caught += sum(sorted((free.count(position) for position in set(free)), reverse=True)[:most])
+        return max(0, len(read) - caught) if size not in self.kept else 0
 
     def least_work(self, size, none_shed):
         """By the work of all positions together, and by what one of them is to run."""
@@ -169,6 +181,13 @@ class Problem:
         both = set(self.running(size, none_shed)) & set(self.running(size - 1, none_shed))
         counts = [(self.executors[size, task], self.executors[size - 1, task]) for task in both]
         return sum(now[0] for now, then in counts if now == then and now[0] == now[1])
+
+    def room(self, size):
+        """The most executors, of some tasks the least number of each, that have room in one subframe."""
+        sums = {0}
+        for task in self.outline.tasks:
+            sums |= {one + self.executors[size, task][0] for one in sums}
+        return max(one for one in sums if one <= size)
 
     # The data of the model.
 
@@ -192,6 +211,7 @@ class Problem:
             "must_not_run": table_text(map(set_text, self.not_runs.values())),
             "shed_turn": f"array1d(TASK, {listed(turns.get(task, 0) for task in outline.tasks)})",
             "most_size": self.wishes.most_size,
+            "room": f"array1d(SIZE, {listed(map(self.room, outline.sizes))})",
             "KEPT": set_text(kept),
             "kept_run": table_text(row.run for row in kept_rows.values()),
             "kept_poll": table_text(row.poll for row in kept_rows.values()),

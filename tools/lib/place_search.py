@@ -107,6 +107,8 @@ class Search:
         if self.found.tables:
             most[aim] = self.found.values[aim] - 1
         answer = self.solve(part if aim != "CHANGES" else 0.5, aim, bounds, most)
+        if not self.found.tables and not answer.complete:
+            answer = self.solve(1.0, aim, bounds, most)
         if not self.found.tables:
             raise NoTables if answer.complete else NotFound
         if aim == "CHANGES":
