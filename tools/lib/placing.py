@@ -150,19 +150,19 @@ def hand_over(work, tables):
 
 
 def write(name, text):
-    """Puts a text in the place of a file, or leaves it as it is."""
+    """Puts a text in the place of a file, or leaves that as it is."""
     folder, base = os.path.split(os.path.realpath(name))
     beside = os.path.join(folder, f".{base}.placed")
     try:
         with open(beside, "w", encoding="utf-8", newline="") as file:
             file.write(text)
-        os.chmod(beside, os.stat(name).st_mode & 0o777)
+        if os.path.exists(name):
+            os.chmod(beside, os.stat(name).st_mode & 0o777)
         os.replace(beside, os.path.join(folder, base))
     except OSError as fault:
         if os.path.exists(beside):
             os.remove(beside)
-        fault.filename = None
-        raise
+        raise Stopped(f"{name}: {fault.strerror}", 9) from None
 
 
 def program_says(work, words, text):
@@ -222,10 +222,8 @@ def draw(work, wishes, tables):
         schedules.append((f"plan with {wishes.copies} copies", planned))
     else:
         say(f"picture    {work.options.program} plans no tables, and so the tables that were found stand alone")
-    name = work.options.picture
-    drawing = place_picture.text_of(schedules) if name.endswith(".txt") else place_picture.svg_of(schedules)
-    with open(name, "w", encoding="utf-8") as file:
-        file.write(drawing)
+    drawn = place_picture.text_of if work.options.picture.endswith(".txt") else place_picture.svg_of
+    write(work.options.picture, drawn(schedules))
 
 
 def plan_of(work, wishes, text):
