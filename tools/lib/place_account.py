@@ -23,8 +23,9 @@ def aim_lines(outline, wishes, found):
 
 def subframes_told(outline, wishes, found):
     value = found.values["SUBFRAMES"]
-    given = [wish for wish in wishes.wishes if wish.kind == "subframes" and wish.least == wish.most]
-    return f"{value}, as it is wished" if given else f"{value}, {proof_of(value, found.bounds['SUBFRAMES'], 'the fewest that there can be')}"
+    if any(wish.kind == "subframes" and wish.least == wish.most for wish in wishes.wishes):
+        return f"{value}, as it is wished"
+    return f"{value}, {proof_of(value, found.bounds['SUBFRAMES'], 'the fewest that there can be')}"
 
 
 def readers_told(outline, wishes, found):
@@ -47,8 +48,9 @@ def shed_told(outline, wishes, found):
     ]
     if not told:
         return "nothing"
-    last = found.values["SHED"] == found.bounds["SHED"] and found.values["TURNS"] > found.bounds["TURNS"]
-    return f"{', and '.join(told)}; {proof_of(found.values['SHED'], found.bounds['SHED'])}{', in perhaps another order' if last else ''}"
+    first = found.values["TURNS"] == found.bounds["TURNS"] or found.values["SHED"] > found.bounds["SHED"]
+    more = "" if first else ", and perhaps others are to be shed first"
+    return f"{', and '.join(told)}; {proof_of(found.values['SHED'], found.bounds['SHED'])}{more}"
 
 
 def work_told(outline, wishes, found):

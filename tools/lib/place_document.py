@@ -35,6 +35,15 @@ def tables_text(tables):
     )
 
 
+def read_tables(text, subframes):
+    """Tables as `plan` writes them."""
+    found = Tables(subframes)
+    for table in places.plain(places.read(text.encode())[1])["table"]:
+        rows = zip(table["run"], table["poll"], table["at"])
+        found.rows[table["size"]] = [Row(run, poll, tuple(map(int, at))) for run, poll, at in rows]
+    return found
+
+
 # Tables into a document.
 
 
@@ -117,7 +126,8 @@ def csv_text(tables, names):
     lines.writerow(COLUMNS)
     for size, rows in tables.rows.items():
         for name, row in zip(names, rows):
-            lines.writerow([size, name, "", "", ""] if row == SHED else [size, name, row.run, row.poll, " ".join(map(str, row.positions))])
+            told = ["", "", ""] if row == SHED else [row.run, row.poll, " ".join(map(str, row.positions))]
+            lines.writerow([size, name, *told])
     return text.getvalue()
 
 
@@ -132,12 +142,14 @@ def positions_in(line, text):
     parts = text.replace(",", " ").replace(";", " ").split()
     parts = list(parts[0]) if len(parts) == 1 else parts
     if not all(part in "01234567" and len(part) == 1 for part in parts):
-        raise NoTable(f"line {line}: `positions` is \"{text}\", and is to be digits from 0 to 7 with blanks between, as in 0 1 2")
+        why = "is to be digits from 0 to 7 with blanks between, as in 0 1 2"
+        raise NoTable(f"line {line}: `positions` is \"{text}\", and {why}")
     positions = tuple(map(int, parts))
     if list(positions) != sorted(set(positions)):
         raise NoTable(f"line {line}: `positions` is \"{text}\", and positions ascend")
     if len(positions) < 3:
-        raise NoTable(f"line {line}: `positions` is \"{text}\", and three are due; a spreadsheet makes 12 of 012, so write 0 1 2")
+        why = "three are due; a spreadsheet makes 12 of 012, so write 0 1 2"
+        raise NoTable(f"line {line}: `positions` is \"{text}\", and {why}")
     return positions
 
 

@@ -3,7 +3,7 @@ from collections import namedtuple
 from dataclasses import dataclass, field
 
 import texts
-from place_wishes import LEAST_EXECUTORS, LEAST_SUBFRAMES, MOST_EXECUTORS, MOST_SUBFRAMES, positions_of
+from place_wishes import LEAST_EXECUTORS, LEAST_SUBFRAMES, MOST_SUBFRAMES, positions_of
 from slots import FEWEST
 
 FIRST_RUN, POLL_DELAY, REPORT_LEAD = 4, 2, 6  # subframes: docs/tables.md, rules 2 to 4
@@ -196,7 +196,7 @@ class Problem:
         outline, kept = self.outline, self.kept
         waiting = outline.waiting(outline.tasks)
         turns = {task: turn for turn, task in enumerate(self.wishes.may_shed, 1)}
-        kept_rows = {(size, task): kept[size][task] if size in kept else SHED for size in outline.sizes for task in outline.tasks}
+        kept_rows = {(size, task): kept[size][task] if size in kept else SHED for size, task in self.executors}
         entries = {
             "units": outline.units,
             "tasks": len(outline.tasks),

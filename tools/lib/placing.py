@@ -8,8 +8,8 @@ import rules
 from files import read_source
 from loading import Refused, load, refusal
 from place_account import aim_lines, campaign_lines, is_kept, more_of, wish_lines
-from place_document import NoTable, csv_text, put, read_csv, rows_of_mission, tables_text
-from place_problem import Outline, Problem
+from place_document import NoTable, csv_text, put, read_csv, read_tables, rows_of_mission, tables_text
+from place_problem import Outline
 from place_search import NotFound, NoTables, Wishing, place as search
 from place_solver import NoSolver
 from place_wishes import NoWishes, nothing_wished, read_wishes
@@ -87,8 +87,10 @@ def wishes_of(work):
     try:
         wishes = read_wishes(read_source(name), work.mission)
     except NoWishes as refused:
-        told = [shown(name, refused.text, fault.start, fault.end, fault.why, [("here", fault.mend)] if fault.mend else [], refused.root)
-                for fault in refused.faults]
+        told = [
+            shown(name, refused.text, fault.start, fault.end, fault.why, [("here", fault.mend)] if fault.mend else [], refused.root)
+            for fault in refused.faults
+        ]
         raise Stopped(f"the wishes are refused\n{''.join(told)}".rstrip("\n"), 2) from None
     for size in work.outline.sizes:
         # A table that stays has to keep the rules, but for the one that asks for more subframes.
@@ -108,7 +110,8 @@ def sought(work, wishes):
     except NoSolver as fault:
         raise Stopped(str(fault), 125) from None
     except NotFound:
-        raise Stopped(f"no tables were found in {work.options.seconds} s, and it isn't known whether there are any; --seconds gives more", 3) from None
+        why = f"no tables were found in {work.options.seconds} s, and it isn't known whether there are any; --seconds gives more"
+        raise Stopped(why, 3) from None
     except NoTables:
         raise Stopped(conflict_told(work, wishes), 1) from None
     for name, came_to in aim_lines(work.outline, wishes, found):
@@ -123,8 +126,8 @@ def sought(work, wishes):
 def conflict_told(work, wishes):
     """The wishes that can't hold together, a line each."""
     conflict = Wishing(work.outline, wishes, work.own, max(DOUBT, work.options.seconds)).conflict()
-    head = "no tables keep all wishes. The fewest that can't hold together:" if conflict.smallest else (
-        "no tables keep all wishes. These can't hold together, and perhaps fewer can't; the time ended:")
+    which = "The fewest that can't hold together" if conflict.smallest else "These can't; the time ended before it was known whether fewer can't"
+    head = f"no tables keep all wishes. {which}:"
     told = [f"  {wish.name}{more_of(wish, work.outline)}" for wish in conflict.wishes]
     free = [work.outline.names[task] for task in work.outline.tasks if task not in wishes.may_shed]
     more = [f"and no wish lets one of these be shed: {', '.join(free)}"] if free else []
@@ -179,7 +182,8 @@ def has_program(work):
 def checked(work, text):
     """Whether the program's `check` accepts a document: 0, or the status and loud lines."""
     if not has_program(work):
-        why = f"there is no program {work.options.program}: tools/build makes it, or --program names one; nothing proved has checked these tables"
+        why = f"there is no program {work.options.program}: tools/build makes it, or --program names one"
+        why += "; nothing proved has checked these tables"
     else:
         status, answer = program_says(work, ["check"], text)
         if (status, answer) == (0, "ok\n"):
@@ -233,24 +237,10 @@ def plan_of(work, wishes, text):
     for subframes in range(12, 65):
         status, answer = program_says(work, ["plan", "--copies", str(wishes.copies), "--subframes", str(subframes)], text)
         if status == 0:
-            root = load(text.encode())[1]
-            planned = load_tables(answer, subframes, work.mission)
-            return load(put(text, root, planned).encode())[2]
+            return load(put(text, load(text.encode())[1], read_tables(answer, subframes)).encode())[2]
         if status != 14:
             return None
     return None
-
-
-def load_tables(text, subframes, mission):
-    """Tables as `plan` prints them."""
-    import places
-    from place_problem import Row, Tables
-
-    found = Tables(subframes)
-    for table in places.plain(places.read(text.encode())[1])["table"]:
-        rows = zip(table["run"], table["poll"], table["at"])
-        found.rows[table["size"]] = [Row(run, poll, tuple(map(int, at))) for run, poll, at in rows]
-    return found
 
 
 # The campaign.
@@ -275,7 +265,8 @@ def campaign(work, folder, text):
         mission = os.path.join(scratch, os.path.basename(work.name) if work.name != "-" else "mission.toml")
         with open(mission, "w", encoding="utf-8", newline="") as file:
             file.write(text)
-        words = [sys.executable, "-S", os.path.join(os.path.dirname(LIB), "sweep"), mission, "--out", folder, "--program", work.options.program]
+        words = [sys.executable, "-S", os.path.join(os.path.dirname(LIB), "sweep"), mission]
+        words += ["--out", folder, "--program", work.options.program]
         done = subprocess.run(words, stdin=subprocess.DEVNULL, capture_output=True, text=True, check=False)
     if done.returncode not in (0, 1):
         raise Stopped(f"the campaign in {folder} wasn't flown: {done.stderr.strip().splitlines()[-1]}", 125)
