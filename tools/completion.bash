@@ -59,10 +59,11 @@ _sift_tool() {
   case ${COMP_WORDS[COMP_CWORD - 1]} in
     --kinds) mapfile -t COMPREPLY < <(compgen -W 'wrong silence two-faces' -- "$word"); return ;;
     --plot) _sift_plotted "$word"; return ;;
-    --from | --limit | --batch | --jobs | --sshlogin | --replay | --frames) COMPREPLY=(); return ;;
+    --from | --limit | --batch | --jobs | --sshlogin | --replay | --frames | --seconds | --size) COMPREPLY=(); return ;;
   esac
   case ${COMP_WORDS[0]##*/} in
     sift-picture) options+=' --text --frames --schedule --sweep' ;;
+    sift-place) options+=' --write --seconds --picture --sweep --to-csv --from-csv --size --program' ;;
     sift-sweep) options+=' --single --pairs --kinds --from --limit --out --program --batch --jobs --sshlogin --resume --overwrite --replay' ;;
     sift-words) options+=' --json --plot --names --unjudged' ;;
   esac
@@ -73,4 +74,4 @@ _sift_tool() {
     mapfile -t COMPREPLY < <(compgen -f -- "$word")
   fi
 }
-complete -F _sift_tool sift-compare sift-explain sift-lint sift-picture sift-sweep sift-words
+complete -F _sift_tool sift-compare sift-explain sift-lint sift-picture sift-place sift-sweep sift-words

@@ -10,13 +10,13 @@ class Refused(Exception):
     """The line that a document gets in place of a mission."""
 
 
-def load(raw):
-    """The text, the root table and the mission of a document's bytes."""
+def load(raw, steps=rules.STEPS):
+    """The text, the root table and the mission of a document's bytes, which is tested by some steps of the rules."""
     try:
         text, root = places.read(raw)
     except places.NotADocument:
         raise Refused("not a document") from None
-    refused = next(iter(rules.refusals(root)), None)
+    refused = next(iter(rules.refusals(root, steps)), None)
     if refused:
         raise Refused(refused.line)
     return text, root, Mission(root)

@@ -11,13 +11,16 @@ from table_rules import broken_tables
 from task_rules import refused_tasks
 
 
-def refusals(root):
+STEPS = (broken_rules, refused_tasks, broken_tables, broken_scripts)
+
+
+def refusals(root, steps=STEPS):
     """What a document breaks, in the order in which the program tests: the first is what it answers.
 
     Each step is only looked at where the steps before it find nothing.
     """
     mission = Mission(root)
-    for step in (broken_rules, refused_tasks, broken_tables, broken_scripts):
+    for step in steps:
         found = list(step(mission))
         if found:
             return found

@@ -149,11 +149,11 @@ def colour_of(task):
 class Page(Drawing):
     """The drawing of all grids, and where a subframe is."""
 
-    def __init__(self, schedule):
-        super().__init__()
-        self.cell = max(15.0, min(62.0, 960 / schedule.subframes))
+    def __init__(self, subframes, grids, room=960, bottom=0):
+        super().__init__(bottom)
+        self.cell = max(15.0, min(62.0, room / subframes))
         # The size in which each box has its whole name, or None where they all have letters.
-        self.for_tasks = self.size_of(task.name for grid in schedule.grids for task in grid.tasks)
+        self.for_tasks = self.size_of(task.name for grid in grids for task in grid.tasks)
         self.for_fixed = self.size_of(word for _, _, word, _ in FIXED)
 
     def size_of(self, names):
@@ -177,8 +177,8 @@ class Page(Drawing):
         self.box(subframe, y, fill, task.name if self.for_tasks else task.letter, self.for_tasks, told, more)
 
 
-def draw_grid(page, grid):
-    """The drawing of one size, below what is drawn."""
+def draw_grid(page, grid, notes):
+    """The drawing of one size with notes in lines, below what is drawn."""
     y, fixed = page.bottom, grid.fixed()
     page.words(24, y, grid.head(), 15, ' font-weight="bold"')
     y += 20
@@ -207,7 +207,7 @@ def draw_grid(page, grid):
         more = f' stroke="{colour_of(task)}" stroke-width="2"'
         page.task_box(task.poll, y + ROW * len(above), "white", task, f"all vote on {task.name} in subframe {task.poll}", more)
     y += ROW * max((len(grid.polled_in(task.poll)) for task in grid.tasks), default=1)
-    for note in grid.notes():
+    for note in notes:
         y += 17
         page.words(LEFT, y, note, 12)
     page.bottom = y + 40
@@ -222,11 +222,11 @@ def draw_key(page):
 
 
 def svg_of(schedule):
-    page = Page(schedule)
+    page = Page(schedule.subframes, schedule.grids)
     page.name(schedule.name)
     page.bottom += 16
     for grid in schedule.grids:
-        draw_grid(page, grid)
+        draw_grid(page, grid, grid.notes())
     draw_key(page)
     width = max(page.at(schedule.subframes) + 32, 940)
     return page.svg("a schedule: positions by subframes", width, page.bottom - 16)
