@@ -1,6 +1,6 @@
 """What a mission states of its flight, as events: what its faulty units say, and which tasks are shed."""
 from mission import items_of
-from reports import digits, stretches_of, when
+from reports import digits, named, stretches_of, when
 from slots import FEWEST
 
 
@@ -21,6 +21,9 @@ def said_by(mission, fault):
         begin = frame.data if frame else fault.get("from").data
         hearers = f"{'unit' if len(item.get('to').data) == 1 else 'units'} {digits(item.get('to').data)}"
         said = "nothing" if value is None else value.data
+        if value is not None and item.get("slot").data in ("report", "relay-report"):
+            caught = [unit for unit in range(8) if value.data >> unit & 1]
+            said = f"{value.data} ({named(caught, 'was', 'were') if caught else 'nobody was'} caught)"
         yield begin, begin if frame else mission.frames - 1, f"{said} as {slot_named(mission, item)} to {hearers}"
 
 
