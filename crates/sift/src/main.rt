@@ -5,12 +5,9 @@
 //! input and output, and the handle by which workers run in threads. The rogues are `Storm`s.
 #![tactic(auto)]
 
-ghost use Rattle.std.specs.Prelude.{◌≡◌, IfOk, length};
-ghost use Rattle.sift_base.specs.Units.{unit_limit};
-
-use sift_base::{Draw, NoMemory};
+use sift_alone::storms;
+use sift_base::NoMemory;
 use sift_io::{StdIn, StdOut};
-use sift_rogue::Storm;
 use sift_run::exit_code;
 use sift_threads::NoProbe;
 use std::alloc::Global;
@@ -27,29 +24,6 @@ fn main(rt: HostRuntime) -> ExitCode {
     let mut sink = StdOut::new(rt.stdout());
     let rogues = storms(alloc);
     exit_code(&rt, alloc, words, &mut source, &mut sink, rogues, &NoProbe)
-}
-
-/// A storm for each unit that there may be, none of which has begun.
-fn storms(alloc: Global) -> Result<Vec<Storm>, NoMemory>
-    ensures { IfOk result (λ storms. length storms.items ≡ unit_limit) }
-{
-    Ok(vec![in alloc;
-        storm(),
-        storm(),
-        storm(),
-        storm(),
-        storm(),
-        storm(),
-        storm(),
-        storm(),
-    ]?)
-}
-
-/// A storm that hasn't begun.
-fn storm() -> Storm {
-    Storm {
-        drawer: Draw::of(0),
-    }
 }
 
 /// The words after the program's name. Where one of them isn't UTF-8 there are none, and no words are no command line.

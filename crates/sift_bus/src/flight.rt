@@ -15,15 +15,14 @@ use sift_flight::{Flight, flights_that_come_home_are_round};
 use sift_mission::{Mission, a_mission_fits};
 use sift_unit::boards_that_are_down_have_flown;
 use std::alloc::Global;
-use std::sync::Wait;
 
 /// Flies a mission without storms on one thread, each unit with three buses before its port. One of
 /// the three is faulty, the same for all units, and each unit has a bus of its own in its place.
 ///
 /// It is always the lowest-numbered unit of least progress that steps, of those that haven't
-/// landed. No unit's seat tells another's number, so nothing says that this ends.
-pub fn fly_buses<B: Bus, H: Wait>(
-    rt: &H,
+/// landed. No unit's seat tells another's number, so nothing says that all land: where some haven't
+/// after as many steps as a number of 64 bits counts, the call ends as for want of memory.
+pub fn fly_buses<B: Bus>(
     alloc: Global,
     mission: &Mission,
     faulty: u8,
@@ -44,7 +43,9 @@ pub fn fly_buses<B: Bus, H: Wait>(
     let parts = mission.parts();
     let (ether, tokens) = Ether::make(alloc, parts.layout, parts.frames)?;
     let mut flyers = board_all(alloc, mission, &ether, tokens, faulty, buses)?;
-    fly_all(rt, mission, flyers.as_mut_slice());
+    if !fly_all(mission, flyers.as_mut_slice()) {
+        return Err(NoMemory);
+    }
     let (tokens, accounts, logs) = leave_all(alloc, flyers)?;
     let journals = ether.land(alloc, tokens)?;
     Ok((Flight { journals, accounts }, logs))

@@ -1,5 +1,5 @@
 //! Boards over ports, stepped on one thread.
-ghost use Rattle.std.specs.Prelude.{◌≡◌, ◌≤◌, ◌*◌, [], All, IfSome, IfNone};
+ghost use Rattle.std.specs.Prelude.{◌≡◌, ◌≤◌, ◌*◌, [], All, IfSome, IfNone, IsTrue};
 ghost use Rattle.std.specs.List.{AllZip};
 ghost use Rattle.sift_mission.specs.Parts.{flown_of};
 ghost use Rattle.sift_unit.specs.Boards.{Drives};
@@ -8,7 +8,6 @@ ghost use Rattle.sift_bus.specs.Turns.{IsNext};
 use sift_buffer::Port;
 use sift_mission::Mission;
 use sift_unit::Board;
-use std::sync::Wait;
 
 /// A unit's board at its port.
 #[derive(Drop)]
@@ -35,21 +34,24 @@ fn next_of<P: Port>(flyers: &[Flyer<P>], end: u64) -> Option<usize>
 }
 
 /// Steps the lowest-numbered unit of least progress that hasn't landed, until all have landed or
-/// turned. No port tells another unit's number, so nothing says that this ends.
-pub(crate) fn fly_all<P: Port, H: Wait>(rt: &H, mission: &Mission, flyers: &mut [Flyer<P>])
+/// turned, and answers whether they have. No port tells another unit's number, so nothing says that
+/// they have after as many steps as a number of 64 bits counts; at one a nanosecond these take
+/// five centuries.
+pub(crate) fn fly_all<P: Port>(mission: &Mission, flyers: &mut [Flyer<P>]) -> bool
     requires { All (λ flyer. Drives (flown_of mission.now) flyer.board (P.view flyer.port)) flyers.old }
     ensures drives { All (λ flyer. Drives (flown_of mission.now) flyer.board (P.view flyer.port)) flyers.new }
     ensures follows { AllZip (λ before after. P.follows before.port [] after.port) flyers.old flyers.new }
-    ensures down { All (λ flyer. (flown_of mission.now).frames * (flown_of mission.now).period ≤ (P.view flyer.port).conduct.progress) flyers.new }
+    ensures down { IsTrue result → All (λ flyer. (flown_of mission.now).frames * (flown_of mission.now).period ≤ (P.view flyer.port).conduct.progress) flyers.new }
 {
     let end = u64::from(mission.frames()) * u64::from(mission.period());
-    for _ in rt.forever() {
+    for _ in 0..u64::MAX {
         match next_of(flyers, end) {
             Some(number) => {
                 let flyer = &mut flyers[number];
                 flyer.board.step(mission, &mut flyer.port);
             }
-            None => break,
+            None => return true,
         }
     }
+    false
 }

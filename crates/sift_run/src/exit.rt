@@ -3,7 +3,7 @@
 ghost use Rattle.std.specs.Prelude.{◌≡◌, ◌⊎◌, IfOk, IsErr, length, map, string_bytes};
 ghost use Rattle.std.specs.Process.{exit_status};
 ghost use Rattle.sift_base.specs.Units.{unit_limit};
-ghost use Rattle.sift_run.specs.Given.{AreGiven};
+ghost use Rattle.sift_alone.specs.Given.{AreGiven};
 ghost use Rattle.sift_reply.specs.Reply.{no_memory_status};
 ghost use Rattle.sift_reply.specs.Promise.{IsAnswered};
 ghost use Rattle.sift_commands.specs.Command.{commands};

@@ -2,14 +2,13 @@
 
 ghost use Rattle.std.specs.Prelude.{◌≡◌, ◌≤◌, IfOk, length, string_bytes};
 ghost use Rattle.sift_base.specs.Units.{unit_limit};
-ghost use Rattle.sift_run.specs.Given.{AreGiven};
+ghost use Rattle.sift_alone.specs.Given.{AreGiven};
 ghost use Rattle.sift_flight.specs.Told.{IsWhole, told};
 ghost use Rattle.sift_jobs.specs.Flights.{IsFlightOf, TellsFlight};
 ghost use Rattle.sift_mission.specs.Parts.{data_of, flown_of};
 
-use crate::fleet::Fleet;
+use sift_alone::{Fleet, tell_alone};
 use sift_base::NoMemory;
-use sift_core::fly;
 use sift_flight::{Flight, round_flights_are_whole};
 use sift_jobs::{FlightOrder, Workers};
 use sift_mission::{Mission, a_mission_fits};
@@ -18,23 +17,6 @@ use sift_threads::{Probe, fly_threads};
 use std::alloc::Global;
 use std::sync::Wait;
 use std::thread::Threads;
-
-/// A flight by one worker, whose units step in this order.
-fn fly_alone<R: Rogue>(
-    alloc: Global,
-    mission: &Mission,
-    order: u64,
-    rogues: Vec<R>,
-) -> Result<Flight, NoMemory>
-    requires { length rogues.items ≡ unit_limit }
-    ensures whole { IfOk result (IsWhole (flown_of mission.now) mission.now.layout) }
-    ensures round { IfOk result (λ flight. IsFlightOf (AreGiven R.allows rogues.items) (data_of mission.now) (told (flown_of mission.now) flight)) }
-{
-    a_mission_fits(mission);
-    round_flights_are_whole();
-    let mut rogues = rogues;
-    fly(alloc, mission, order, rogues.as_mut_slice())
-}
 
 /// How many workers fly a mission together.
 fn count_of(mission: &Mission, workers: Workers) -> u8
@@ -67,35 +49,14 @@ fn fly_together<R: Rogue + Send, P: Probe + Sync, H: Threads + Wait + Sync>(
     fly_threads(rt, alloc, mission, workers, rogues, probe)
 }
 
-/// A flight by these workers. One waits for nobody; several wait for one another.
-fn fly_by<R: Rogue + Send, P: Probe + Sync, H: Threads + Wait + Sync>(
+/// Flies what is ordered by as many workers as are asked for, and tells what is asked of it.
+fn tell_together<R: Rogue + Send, P: Probe + Sync, H: Threads + Wait + Sync>(
     rt: &H,
     alloc: Global,
-    mission: &Mission,
-    workers: Workers,
-    rogues: Vec<R>,
-    probe: &P,
-) -> Result<Flight, NoMemory>
-    requires { length rogues.items ≡ unit_limit }
-    ensures whole { IfOk result (IsWhole (flown_of mission.now) mission.now.layout) }
-    ensures round { IfOk result (λ flight. IsFlightOf (AreGiven R.allows rogues.items) (data_of mission.now) (told (flown_of mission.now) flight)) }
-{
-    match workers {
-        Workers::One { order } => fly_alone(alloc, mission, order, rogues),
-        Workers::Several(_) | Workers::OneEach => {
-            let count = count_of(mission, workers);
-            fly_together(rt, alloc, mission, count, rogues, probe)
-        }
-    }
-}
-
-/// Flies what is ordered, and tells what is asked of it.
-pub(crate) fn tell<R: Rogue + Send, P: Probe + Sync, H: Threads + Wait + Sync>(
-    alloc: Global,
-    order: FlightOrder<Fleet<'_, R, H>>,
+    order: FlightOrder<Fleet<R>>,
     probe: &P,
 ) -> Result<String, NoMemory>
-    ensures { IfOk result (λ text. TellsFlight (AreGiven R.allows order.entry.flier.rogues.items) (data_of order.entry.mission) order.entry.telling (string_bytes text)) }
+    ensures { IfOk result (λ text. TellsFlight (AreGiven R.allows order.flier.rogues.items) (data_of order.mission) order.telling (string_bytes text)) }
 {
     let FlightOrder {
         flier,
@@ -103,7 +64,23 @@ pub(crate) fn tell<R: Rogue + Send, P: Probe + Sync, H: Threads + Wait + Sync>(
         workers,
         telling,
     } = order;
-    let Fleet { rt, rogues } = flier;
-    let flight = fly_by(rt, alloc, &mission, workers, rogues, probe)?;
+    let Fleet { rogues } = flier;
+    let count = count_of(&mission, workers);
+    let flight = fly_together(rt, alloc, &mission, count, rogues, probe)?;
     telling.text(alloc, &mission, &flight)
+}
+
+/// Flies what is ordered, and tells what is asked of it. One worker waits for nobody; several wait for one another.
+pub(crate) fn tell<R: Rogue + Send, P: Probe + Sync, H: Threads + Wait + Sync>(
+    rt: &H,
+    alloc: Global,
+    order: FlightOrder<Fleet<R>>,
+    probe: &P,
+) -> Result<String, NoMemory>
+    ensures { IfOk result (λ text. TellsFlight (AreGiven R.allows order.flier.rogues.items) (data_of order.mission) order.telling (string_bytes text)) }
+{
+    match order.workers {
+        Workers::One { .. } => tell_alone(alloc, order),
+        Workers::Several(_) | Workers::OneEach => tell_together(rt, alloc, order, probe),
+    }
 }

@@ -2,7 +2,7 @@
 
 ghost use Rattle.std.specs.Prelude.{◌≡◌, IfOk, length, map, string_bytes};
 ghost use Rattle.sift_base.specs.Units.{unit_limit};
-ghost use Rattle.sift_run.specs.Given.{AreGiven};
+ghost use Rattle.sift_alone.specs.Given.{AreGiven};
 ghost use Rattle.sift_jobs.specs.Flights.{TellsFlight};
 ghost use Rattle.sift_mission.specs.Parts.{data_of};
 ghost use Rattle.sift_reply.specs.Reply.{no_memory_status};
@@ -10,13 +10,11 @@ ghost use Rattle.sift_reply.specs.Promise.{AskForNoInput, IsAnswered, IsCertain}
 ghost use Rattle.sift_commands.specs.Command.{commands};
 ghost use Rattle.sift_commands.specs.Headline.{IsHeadlineWritten};
 
-use crate::fleet::Fleet;
 use crate::flying::tell;
+use sift_alone::{Fleet, sift_by};
 use sift_base::NoMemory;
-use sift_commands::{Command, commands_have_own_statuses, the_headline_is_written};
 use sift_io::{Sink, Source};
 use sift_jobs::FlightOrder;
-use sift_reply::answer;
 use sift_rogue::Rogue;
 use sift_threads::Probe;
 use std::alloc::Global;
@@ -57,17 +55,14 @@ pub fn sift<S: Source, K: Sink, R: Rogue + Send, P: Probe + Sync, H: Threads + W
     ensures unread { AskForNoInput (commands (AreGiven R.allows rogues.items)) (map string_bytes words.now) → source.new ≡ source.old }
     ensures unwritten { result ≡ no_memory_status → sink.new ≡ sink.old }
 {
-    commands_have_own_statuses::<Fleet<'_, R, H>>();
-    the_headline_is_written::<Fleet<'_, R, H>>();
-    let fleet = Fleet::of(rt, rogues);
-    answer::<Fleet<'_, R, H>, FlightOrder<Fleet<'_, R, H>>, Command, S, K, _>(
+    sift_by(
         alloc,
-        fleet,
         words,
         source,
         sink,
-        &|order: FlightOrder<Fleet<'_, R, H>>| -> Result<String, NoMemory>
-            ensures { IfOk result (λ text. TellsFlight (AreGiven R.allows order.entry.flier.rogues.items) (data_of order.entry.mission) order.entry.telling (string_bytes text)) }
-        { tell(alloc, order, probe) },
+        rogues,
+        &|order: FlightOrder<Fleet<R>>| -> Result<String, NoMemory>
+            ensures { IfOk result (λ text. TellsFlight (AreGiven R.allows order.flier.rogues.items) (data_of order.mission) order.telling (string_bytes text)) }
+        { tell(rt, alloc, order, probe) },
     )
 }

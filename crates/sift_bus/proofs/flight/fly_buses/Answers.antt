@@ -1,4 +1,4 @@
-use Rattle.std.proofs.Common.{◌≡◌, ℕ, All, List, ◌++◌, length, take, drop, sym, ap, ◌∙◌, subst, arith}
+use Rattle.std.proofs.Common.{◌≡◌, refl, ℕ, All, List, ◌++◌, length, take, drop, sym, ap, ◌∙◌, subst, arith}
 use Rattle.std.proofs.Math.Seq.{take-append_seam}
 use Rattle.std.specs.List.{AllZip}
 use Rattle.sift_mission.specs.Parts.{data_of, flown_of}
@@ -43,7 +43,7 @@ have_flown g c = record {
   boarded = c.in_ok-flyers.ensures;
   flew = subst (λ (xs : List (Boarded g.row.B.Denot)). AllZip (Flew g.B.Bus.allows) xs c.fly_all.new.flyers) c.as_mut_slice.ensures.value c.fly_all.ensures.follows;
   drives = c.fly_all.ensures.drives;
-  down = c.fly_all.ensures.down;
+  down = c.if-not-fly_all.ensures.down refl;
   left = subst (λ (ys : List (Boarded g.row.B.Denot)). AllZip (λ y t. IsTokenBack y.port.port t) ys c.in_ok-tokens.tokens.items) (written_back g c)
       c.in_ok-tokens.ensures.tokens;
 }

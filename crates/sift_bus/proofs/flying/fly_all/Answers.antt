@@ -9,7 +9,6 @@ use Rattle.sift_bus.proofs.flying.fly_all.Goals as goal
 -- each port follows itself
 pub loop-init : goal.loop-init
 loop-init g c = record {
-  can = (tt, tt);
   drives = c.requires;
   follows = side_by_itself (λ before after. g.P.Look.follows before.port [] after.port) (λ x. g.met.P.Look.follows_itself x.port) c.args.flyers.now;
 }
@@ -17,12 +16,11 @@ loop-init g c = record {
 -- the next one has stepped
 pub loop-preserved : goal.loop-preserved
 loop-preserved g c = record {
-  can = c.loop.invariant.can;
-  drives = All-set (λ flyer. Drives (flown_of c.args.mission.now) flyer.board (g.P.Look.view flyer.port)) c.loop.flyers c.in-Some-next_of.number
+  drives = All-set (λ flyer. Drives (flown_of c.args.mission.now) flyer.board (g.P.Look.view flyer.port)) c.loop.flyers c.in-Some.number
       (record { board = c.step.new.self; port = c.step.new.port }) c.step.ensures.drives c.loop.invariant.drives;
-  follows = side_set (λ before after. g.P.Look.follows before.port [] after.port) c.args.flyers.now c.loop.flyers c.in-Some-next_of.number
+  follows = side_set (λ before after. g.P.Look.follows before.port [] after.port) c.args.flyers.now c.loop.flyers c.in-Some.number
       c.index-flyers-number.result (record { board = c.step.new.self; port = c.step.new.port }) c.loop.invariant.follows
-      c.in-Some-next_of.ensures.found.there
+      c.in-Some.ensures.found.there
       (λ x old. g.met.P.Look.follows_on x.port _ c.step.new.port [] [] old c.step.ensures.follows);
 }
 

@@ -1,5 +1,5 @@
 use Rattle.std.proofs.Common.{ℕ, List, String, Global, map, string_bytes, sym, subst}
-use Rattle.sift_run.specs.Given.{AreGiven}
+use Rattle.sift_alone.specs.Given.{AreGiven}
 use Rattle.sift_reply.specs.Reply.{Input, Output}
 use Rattle.sift_reply.specs.Promise.{IsAnswered}
 use Rattle.sift_commands.specs.Command.{commands}

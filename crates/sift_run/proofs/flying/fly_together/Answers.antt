@@ -1,6 +1,6 @@
 use Rattle.sift_mission.specs.Parts.{data_of}
-use Rattle.sift_run.proofs.Both.{both_ok, map_ok}
-use Rattle.sift_run.proofs.Flown.{flight_of}
+use Rattle.sift_alone.specs.laws.Both.{both_ok, map_ok}
+use Rattle.sift_alone.specs.laws.Flown.{flight_of}
 use Rattle.sift_run.proofs.flying.fly_together.Goals as goal
 
 pub returns-clause-whole : goal.returns-clause-whole

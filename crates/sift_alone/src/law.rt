@@ -1,6 +1,6 @@
 //! The law of storms that are drawn.
 
-ghost use Rattle.sift_run.specs.Given.{StormsGiveWhatTheyDraw};
+ghost use Rattle.sift_alone.specs.Given.{StormsGiveWhatTheyDraw};
 
 use sift_rogue::drawn_storms_are_the_draws;
 

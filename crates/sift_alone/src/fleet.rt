@@ -11,33 +11,31 @@ use sift_jobs::Flier;
 use sift_mission::Mission;
 use sift_rogue::Rogue;
 use std::alloc::Global;
-use std::sync::Wait;
 
-/// What flies missions: the rogues of the units 0 to 7, and the handle by which a flight waits.
+/// What flies missions: the rogues of the units 0 to 7.
 #[derive(Drop)]
-pub(crate) struct Fleet<'a, R, H> {
-    pub(crate) rt: &'a H,
-    pub(crate) rogues: Vec<R>,
-    ghost eight: { length rogues.items ≡ unit_limit },
+pub struct Fleet<R> {
+    pub rogues: Vec<R>,
+    pub ghost eight: { length rogues.items ≡ unit_limit },
 }
 
-impl<'a, R, H> Fleet<'a, R, H> {
-    /// The fleet with this handle and these rogues.
-    pub(crate) fn of(rt: &'a H, rogues: Vec<R>) -> Fleet<'a, R, H>
+impl<R> Fleet<R> {
+    /// The fleet with these rogues.
+    pub fn of(rogues: Vec<R>) -> Fleet<R>
         requires { length rogues.items ≡ unit_limit }
         ensures { result.rogues ≡ rogues }
     {
-        Fleet { rt, rogues }
+        Fleet { rogues }
     }
 }
 
-impl<R: Rogue, H> Flier for Fleet<'_, R, H> {
-    ghost use Rattle.sift_run.specs.Given.{AreGiven};
+impl<R: Rogue> Flier for Fleet<R> {
+    ghost use Rattle.sift_alone.specs.Given.{AreGiven};
 
     ghost gives = { λ fleet. AreGiven R.allows fleet.rogues.items };
 }
 
-impl<R: Drop, H: Wait> BusFlier for Fleet<'_, R, H> {
+impl<R: Drop> BusFlier for Fleet<R> {
     fn fly_buses(
         self,
         alloc: Global,
@@ -46,6 +44,6 @@ impl<R: Drop, H: Wait> BusFlier for Fleet<'_, R, H> {
         bus: Constant,
     ) -> Result<(Flight, Vec<BusLog>), NoMemory> {
         let buses = one_each(alloc, mission, &bus)?;
-        fly_buses(self.rt, alloc, mission, faulty, buses)
+        fly_buses(alloc, mission, faulty, buses)
     }
 }

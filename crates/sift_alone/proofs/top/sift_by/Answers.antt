@@ -1,6 +1,5 @@
-use Rattle.std.proofs.Common.{map, string_bytes, arith}
-use Rattle.std.proofs.lemmas.Grind.{common_steps}
-use Rattle.sift_run.proofs.top.sift.Goals as goal
+use Rattle.std.proofs.Common.{map, string_bytes}
+use Rattle.sift_alone.proofs.top.sift_by.Goals as goal
 
 -- the fleet has the rogues that were handed in
 pub returns-clause-answered : goal.returns-clause-answered
@@ -16,6 +15,3 @@ returns-clause-headline g c = rw (← c.of-fleet.ensures)
     (record { before = g.S.Source.inflow c.args.source.now; after = g.S.Source.inflow c.answer.new.source })
     (record { before = g.K.Sink.outflow c.args.sink.now; after = g.K.Sink.outflow c.answer.new.sink })
     c.answer.result c.answer.ensures.answered)
-
-pub answer-requires-clause-callable : goal.answer-requires-clause-callable
-answer-requires-clause-callable g c = grind (arith, common_steps)

@@ -1,7 +1,7 @@
 use Rattle.sift_mission.specs.Parts.{data_of}
-use Rattle.sift_run.proofs.Both.{both_ok, map_ok}
-use Rattle.sift_run.proofs.Flown.{flight_of}
-use Rattle.sift_run.proofs.flying.fly_alone.Goals as goal
+use Rattle.sift_alone.specs.laws.Both.{both_ok, map_ok}
+use Rattle.sift_alone.specs.laws.Flown.{flight_of}
+use Rattle.sift_alone.proofs.flying.fly_alone.Goals as goal
 
 pub returns-clause-whole : goal.returns-clause-whole
 returns-clause-whole g c =
@@ -11,3 +11,7 @@ returns-clause-whole g c =
 pub returns-clause-round : goal.returns-clause-round
 returns-clause-round g c = rw (← c.as_mut_slice.ensures.value)
     (map_ok c.fly.result _ _ c.fly.ensures.round (λ flight round. flight_of g.R.Rogue.allows (data_of c.args.mission.now) _ _ flight round))
+
+pub returns-clause-ordered : goal.returns-clause-ordered
+returns-clause-ordered g c = rw (← c.as_mut_slice.ensures.value)
+    (map_ok c.fly.result _ _ c.fly.ensures.ordered (λ flight ordered. (_, ordered)))

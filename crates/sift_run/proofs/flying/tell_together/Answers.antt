@@ -1,5 +1,5 @@
-use Rattle.sift_run.proofs.Both.{map_ok}
-use Rattle.sift_run.proofs.flying.tell.Goals as goal
+use Rattle.sift_alone.specs.laws.Both.{map_ok}
+use Rattle.sift_run.proofs.flying.tell_together.Goals as goal
 
 -- the text tells it of this flight
 pub returns : goal.returns

@@ -1,0 +1,6 @@
+use Rattle.sift_alone.specs.laws.Both.{map_ok}
+use Rattle.sift_alone.proofs.flying.tell_alone.Goals as goal
+
+-- the text tells it of this flight
+pub returns : goal.returns
+returns g c = map_ok c.text.result _ _ c.text.ensures (λ text told. (_, c.in_ok-flight.ensures.round, told))

@@ -1,0 +1,15 @@
+//! The top call by whatever tells of flights, and what flies missions by one worker: no thread is
+//! started and nobody is waited for, so that neither needs a handle.
+#![tactic(auto)]
+
+mod fleet;
+mod flying;
+mod law;
+mod resting;
+mod top;
+
+pub use fleet::Fleet;
+pub use flying::tell_alone;
+pub use law::storms_give_what_they_draw;
+pub use resting::storms;
+pub use top::{sift_alone, sift_by};
