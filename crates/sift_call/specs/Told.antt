@@ -1,0 +1,20 @@
+-- What a call over memory tells.
+use Rattle.std.specs.Prelude.{ℕ, List}
+use Rattle.sift_rogue.specs.Rogues.{AllowsDrawn}
+use Rattle.sift_alone.specs.Given.{AreGiven, resting_storms}
+use Rattle.sift_commands.specs.Command.{commands}
+use Rattle.sift_commands.specs.declared.command.Command.{Command}
+use Rattle.sift_reply.specs.Duty.{IsOwedTo}
+use Rattle.sift_reply.specs.Promise.{Commands, IsOwed}
+
+-- the commands of the program, whose stray units store what its storms draw
+abbrev pub program_commands : Commands Command
+program_commands = commands (AreGiven AllowsDrawn resting_storms)
+
+-- the status and the text are those of a reply that is owed to this input by these words
+abbrev pub IsTold : (words : List (List ℕ)) (input : List ℕ) (status : ℕ) (text : List ℕ) → Type 0
+IsTold words input status text = IsOwed program_commands words (λ duty. IsOwedTo duty input) (record { status = status; text = text })
+
+-- no reply has a higher status
+abbrev pub last_status : ℕ
+last_status = 17
