@@ -49,6 +49,7 @@ class Row:
             raise ValueError(cells["fault"])
         self.lost = {"ok": False, "lost": True}[cells["margin"]]
         self.wrong = int(cells["wrong"])
+        self.first = None if cells["first"] == "-" else int(cells["first"])
         self.judge = cells["judge"]
         parts = [cells[name].split("+") for name in ("said", "caught", "out")]
         self.fates = [self.fate_of(*part) for part in zip(*parts)]
