@@ -9,14 +9,14 @@ from hypothesis import strategies as some
 from scipy.integrate import solve_ivp
 from scipy.sparse.linalg import expm_multiply
 
-from sift.odds import DEATHS, FEWER, OUTPUT, SECOND, Chain, NoWays, Rates, TooStiff, Way, contributions, exponential, ways_of, white_bounds
+from sift.odds import DEATHS, FEWER, LEVELS, OUTPUT, SECOND, Chain, NoWays, Rates, TooStiff, Way, contributions, exponential, ways_of, white_bounds
 
 AT_ONCE = 1e-4  # seconds of a frame, so that a unit that is caught is out at once
 
 
 def all_alike(units, frames=1, lost=None):
     """Units that all fail in one way."""
-    ways = [Way(unit, f"unit {unit}", 1.0, frames, lost) for unit in range(units)]
+    ways = [Way(unit, "clock", "wrong", 1.0, frames, lost) for unit in range(units)]
     return {size: ways for size in range(4, units + 1)}
 
 
@@ -68,7 +68,7 @@ def test_a_transient_failure_recovers_or_costs_the_unit():
     late = chain_of(5, all_alike(5, frames=2), permanent=0.0, transient=1e-3, frame=AT_ONCE).solve(10)
     assert caught.death(FEWER) == pytest.approx(math.fsum([1, -5 * math.exp(-0.04), 4 * math.exp(-0.05)]), rel=1e-5)
     assert late.death(FEWER) == 0
-    assert late.states["well", 5] == pytest.approx(1, rel=1e-9)
+    assert late.states["well", 5] == pytest.approx(1, rel=1e-6)
 
 
 def test_an_output_that_is_lost_later_than_a_transient_failure_lasts_is_not_lost():
@@ -82,9 +82,9 @@ def test_an_output_that_is_lost_later_than_a_transient_failure_lasts_is_not_lost
 
 MIXED = {
     size: [
-        Way(unit, f"unit {unit} {frames} {lost}", share, frames, lost)
+        Way(unit, f"out a.{place}", "wrong", share, frames, lost)
         for unit in range(6)
-        for share, frames, lost in ((0.5, 1, None), (0.3, 3, None), (0.15, None, None), (0.05, None, 0))
+        for place, (share, frames, lost) in enumerate(((0.5, 1, None), (0.3, 3, None), (0.15, None, None), (0.05, None, 0)))
     ]
     for size in (4, 5, 6)
 }
@@ -142,7 +142,8 @@ def test_the_loss_lies_in_whites_bounds_and_its_parts_come_to_it(units, permanen
     low, high = white_bounds(chain, 10, solution.loss)
     assert low * (1 - 1e-4) <= solution.loss <= high * (1 + 1e-4)
     assert high <= 1.2 * low
-    assert math.fsum(row.probability for row in contributions(solution)) == pytest.approx(solution.loss, rel=1e-6)
+    for level in LEVELS:
+        assert math.fsum(row.probability for row in contributions(solution, level)) == pytest.approx(solution.loss, rel=1e-6)
     assert math.fsum(solution.states.values()) == pytest.approx(1, rel=1e-6)
 
 

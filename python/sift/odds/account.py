@@ -1,21 +1,32 @@
 """What contributes to the end of the promise: which unit, slot and way, by which kind of failure."""
 import math
 from collections import defaultdict
-from typing import NamedTuple
+from typing import NamedTuple, Optional
 
 from sift.odds.chain import FEWER, OUTPUT, SECOND, Cause, Solution
 
 
 class Contribution(NamedTuple):
-    """A way of failing, how the promise ended by it, and the probability that it did."""
+    """A way of failing, or several together; how the promise ended by it; and the probability that it did.
 
-    name: str
-    kind: str
+    What isn't told apart is None: the way where ways of lying are put together, the unit where units are.
+    """
+
+    unit: Optional[int]
+    slot: str
+    way: Optional[str]
+    kind: Optional[str]
     death: str
     probability: float
 
+    def __str__(self) -> str:
+        unit = None if self.unit is None else f"unit {self.unit}"
+        kind = None if self.kind is None else f"({self.kind})"
+        return " ".join(word for word in (unit, self.slot, self.way, kind) if word)
 
-ANYONE = "any failure of one of four units"
+
+ANY = "any slot"  # what is said of the slot where each failure of one of four units ends the promise
+LEVELS = ("slot", "unit", "way")
 
 
 def overtaken(solution: Solution, size: int, frames: int) -> float:
@@ -34,25 +45,34 @@ def group_of(cause: Cause, size: int) -> tuple:
     return (SECOND, size, "stays") if cause.fate.well_after is None else (SECOND, size, "recovers")
 
 
-def contributions(solution: Solution) -> list[Contribution]:
-    """Of each way of failing its part in the loss, the largest first; together they are the loss.
+def at_level(level: str, cause: Cause) -> tuple:
+    """What a cause counts to: its slot of any unit, that of its unit, or the way itself."""
+    way = cause.way
+    if level == "slot":
+        return None, way.slot, None, None
+    return (way.unit, way.slot, None, None) if level == "unit" else (way.unit, way.slot, way.way, cause.kind)
 
-    Where several ways lead to one end, it is shared by how often each comes and how likely a second failure overtakes it.
+
+def contributions(solution: Solution, level: str = "way") -> list[Contribution]:
+    """The parts of the loss, the largest first; together they are the loss.
+
+    They are told by slot (of all units), by unit and slot, or by way: unit, slot, way of lying, and kind of failure. Where
+    several lead to one end, it is shared by how often each comes and how likely a second failure overtakes it.
     """
-    shares: dict[tuple, dict[tuple[str, str], float]] = defaultdict(lambda: defaultdict(float))
+    shares: dict[tuple, dict[tuple, float]] = defaultdict(lambda: defaultdict(float))
     for size, causes in solution.chain.causes.items():
         for cause in causes:
             group = group_of(cause, size)
             frames = cause.fate.out_after if cause.fate.out_after is not None else cause.fate.well_after
             weight = cause.rate if frames is None else cause.rate * overtaken(solution, size, frames)
-            shares[group][cause.name, cause.kind] += weight
-    found: dict[tuple[str, str, str], float] = defaultdict(float)
+            shares[group][at_level(level, cause)] += weight
+    found: dict[tuple, float] = defaultdict(float)
     for state, probability in solution.states.items():
         if state[0] == FEWER:
-            found[ANYONE, "", FEWER] += probability
+            found[None, ANY, None, None, FEWER] += probability
         elif state[0] in (SECOND, OUTPUT):
             whole = math.fsum(shares[state].values())
-            for (name, kind), weight in shares[state].items():
-                found[name, kind, state[0]] += probability * weight / whole if whole > 0 else 0.0
+            for key, weight in shares[state].items():
+                found[(*key, state[0])] += probability * weight / whole if whole > 0 else 0.0
     rows = [Contribution(*key, probability) for key, probability in found.items() if probability > 0]
-    return sorted(rows, key=lambda row: (-row.probability, row.name, row.kind))
+    return sorted(rows, key=lambda row: (-row.probability, str(row)))

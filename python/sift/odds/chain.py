@@ -70,7 +70,7 @@ class Rates:
 class Cause:
     """A way of failing for one kind of failure: how often, over all units of the configuration, and what becomes of it."""
 
-    name: str
+    way: Way
     kind: str
     rate: float  # an hour
     fate: Fate
@@ -81,7 +81,7 @@ def causes_of(rates: Rates, size: int, ways: Sequence[Way]) -> list[Cause]:
     units = len({way.unit for way in ways})
     lasting = zip(KINDS, (rates.permanent, rates.transient), (None, rates.lasts))
     return [
-        Cause(way.name, kind, size * rate * way.share / units, fate_of(way, lasts))
+        Cause(way, kind, size * rate * way.share / units, fate_of(way, lasts))
         for kind, rate, lasts in lasting
         if rate > 0
         for way in ways

@@ -4,7 +4,7 @@ from typing import IO, Sequence
 from sift.odds.chain import DEATHS, Solution
 
 COLOURS = dict(zip(DEATHS, ("#d7301f", "#1f78b4", "#fdbf6f")))  # told apart by the colour-blind, as in all our pictures
-INK = "#222222"
+TOGETHER = "#cccccc"
 POINTS = 40  # of a curve over time
 
 
@@ -38,11 +38,11 @@ def over_time(solutions: Sequence[Solution], title: str, out: IO[bytes]) -> None
     """Each way in which the promise ends over the hours, and all of them together."""
     figure, axes = axes_of(title, "hours")
     hours = [solution.hours for solution in solutions]
+    axes.plot(hours, [solution.loss for solution in solutions], color=TOGETHER, linewidth=6, label="together")
     for death in DEATHS:
         values = [solution.death(death) for solution in solutions]
         if any(values):
             axes.plot(hours, values, color=COLOURS[death], label=death)
-    axes.plot(hours, [solution.loss for solution in solutions], color=INK, linestyle="--", label="together")
     axes.legend(frameon=False)
     write(figure, out)
 

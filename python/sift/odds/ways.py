@@ -1,6 +1,6 @@
 """The ways in which a unit goes wrong, and what a campaign saw come of each."""
 import math
-from dataclasses import dataclass
+from dataclasses import dataclass, replace
 from fnmatch import fnmatchcase
 from typing import Iterable, Optional, Sequence
 
@@ -13,17 +13,23 @@ class NoWays(ValueError):
 
 @dataclass(frozen=True)
 class Way:
-    """A way of failing of one unit: the share of that unit's failures that it is, and what came of it.
+    """A way of failing of one unit, in a slot: the share of that unit's failures that it is, and what came of it.
 
     `frames` is after how many frames the unit is out of the configuration, None where it stays. `lost` is in which frame of
     the fault an output was lost for the first time, from 0, None where none was.
     """
 
     unit: int
-    name: str
+    slot: str
+    way: str
     share: float
     frames: Optional[int]
     lost: Optional[int]
+
+    @property
+    def name(self) -> str:
+        """As a campaign's rows have it, and weights name it."""
+        return f"unit {self.unit} {self.slot} {self.way}"
 
 
 @dataclass(frozen=True)
@@ -76,13 +82,11 @@ def ways_of_unit(unit: int, slots: dict[str, dict[str, list]], weights: Sequence
     found = []
     for slot, kinds in slots.items():
         for kind, rows in kinds.items():
-            name = f"unit {unit} {slot} {kind}"
-            share = weight_of(name, weights) / len(slots) / len(kinds) / len(rows)
-            found += [(name, share, row, begin) for row, begin in rows]
-    whole = math.fsum(share for _, share, _, _ in found)
+            for row, begin in rows:
+                share = 1 / len(slots) / len(kinds) / len(rows)
+                found.append(Way(unit, slot, kind, share, row.removals[0], None if row.wrong == 0 else row.first - begin))
+    found = [replace(way, share=way.share * weight_of(way.name, weights)) for way in found]
+    whole = math.fsum(way.share for way in found)
     if not whole > 0 or not math.isfinite(whole):
         raise NoWays(f"the weights leave nothing of unit {unit}")
-    return [
-        Way(unit, name, share / whole, row.removals[0], None if row.wrong == 0 else row.first - begin)
-        for name, share, row, begin in found
-    ]
+    return [replace(way, share=way.share / whole) for way in found]

@@ -1,8 +1,8 @@
 """Tells how likely a mission's promise ends within some hours, from a rate of failures and a campaign.
 
 usage: tools/odds MISSION --permanent RATE [--transient RATE] [--lasts FRAMES] (--frame SECONDS | --tick SECONDS) --hours HOURS
-                  [--runs [SIZE=]RUNS].. [--weight PATTERN=NUMBER].. [--units N] [--vary NAME=LIST].. [--causes N]
-                  [--plot FILE] [--json]
+                  [--runs [SIZE=]RUNS].. [--weight PATTERN=NUMBER].. [--units N] [--vary NAME=LIST].. [--by LEVEL]
+                  [--causes N] [--plot FILE] [--json]
 
   --permanent RATE      failures of a unit in an hour, each for ever
   --transient RATE      the same of failures that end by themselves: 0 where it isn't given
@@ -15,6 +15,7 @@ usage: tools/odds MISSION --permanent RATE [--transient RATE] [--lasts FRAMES] (
   --units N             how many units are in the configuration at the start: the mission's where it isn't given
   --vary NAME=LIST      a row of a table for each value of permanent, transient, frame, hours or units, as in hours=1,10,100; of
                         several each with each
+  --by LEVEL            contributions by slot, which is where it isn't given, by unit and slot, or by way of lying and kind of failure
   --causes N            how many contributions are told: 10 where it isn't given
   --plot FILE           a picture as SVG: over time, or over the values that vary
   --json                all of it as JSON
@@ -34,7 +35,7 @@ import tempfile
 from sift import where
 from sift.campaigns.rows import NoRows, rows_of
 from sift.files import as_called, run
-from sift.odds import DEATHS, FEWEST, NoWays, Rates, TooStiff, contributions, ways_of, white_bounds
+from sift.odds import DEATHS, FEWEST, LEVELS, NoWays, Rates, contributions, ways_of, white_bounds
 from sift.odds.picture import POINTS, over_time, over_values
 from sift.odds.study import VARIED, Setting, settings_of
 from sift.rules.loading import Refused, load, refusal
@@ -115,6 +116,7 @@ def options_of(words):
     parser.add_argument("--weight", type=weight_of, action="append", default=[], dest="weights")
     parser.add_argument("--units", type=whole)
     parser.add_argument("--vary", type=values_of, action="append", default=[])
+    parser.add_argument("--by", choices=LEVELS, default=LEVELS[0])
     parser.add_argument("--causes", type=whole, default=10)
     parser.add_argument("--plot")
     parser.add_argument("--json", action="store_true")
@@ -201,22 +203,23 @@ def measured(ways):
     return f"how long each way of failing takes until its unit is out, and whether an output is lost: by {ways.runs:,} runs"
 
 
-def told(setting, solution, bounds, ways, most):
+def told(setting, solution, bounds, ways, parts):
     """The odds in words."""
     rates = setting.rates
     yield f"{setting.units} units, frames of {rates.frame:g} s, {setting.hours:g} hours"
-    transient = f", {rates.transient:g} transient ones of {rates.lasts} frames" if rates.transient else ""
-    yield f"failures of a unit in an hour: {rates.permanent:g} permanent ones{transient}"
+    frames = "frame" if rates.lasts == 1 else "frames"
+    transient = f", {rates.transient:g} of {rates.lasts} {frames}" if rates.transient else ""
+    yield f"failures of a unit in an hour: {rates.permanent:g} that last{transient}"
     yield ""
-    yield f"the promise ends with a probability of {solution.loss:.4g}"
-    yield f"  right to a share of {solution.error:.1g} of it; White's bounds are {bounds.low:.4g} and {bounds.high:.4g}"
+    yield f"the promise ends with a probability of {solution.loss:.5g}"
+    yield f"  but for a share of {solution.error:.1g} of it; White's bounds are {bounds.low:.5g} and {bounds.high:.5g}"
     for death in DEATHS:
         yield f"  {solution.death(death):11.4g}  {death}"
     yield ""
     yield "what contributes most"
-    for row in contributions(solution)[:most]:
-        kind = f" ({row.kind})" if row.kind else ""
-        yield f"  {100 * row.probability / solution.loss:5.1f}%  {row.name}{kind}: {row.death}"
+    for row in parts:
+        share = 100 * row.probability / solution.loss if solution.loss else 0
+        yield f"  {share:5.1f}%  {row}: {row.death}"
     yield ""
     yield f"proved    {PROVED}"
     yield f"measured  {measured(ways)}"
@@ -224,7 +227,7 @@ def told(setting, solution, bounds, ways, most):
         yield f"assumed   {words}"
 
 
-def data_of(setting, solution, bounds, ways, most):
+def data_of(setting, solution, bounds, ways, parts):
     """The same as values."""
     return {
         "units": setting.units,
@@ -237,7 +240,7 @@ def data_of(setting, solution, bounds, ways, most):
         "relative_error": solution.error,
         "white_bounds": list(bounds),
         "deaths": {death: solution.death(death) for death in DEATHS},
-        "contributions": [row._asdict() for row in contributions(solution)[:most]],
+        "contributions": [row._asdict() for row in parts],
         "proved": PROVED,
         "measured": measured(ways),
         "assumed": list(assumptions(ways, setting)),
@@ -248,10 +251,11 @@ def one(options, setting, ways):
     """Tells the odds of one setting, and draws them over time."""
     solution = setting.solve(ways.of_size)
     bounds = white_bounds(solution.chain, setting.hours, solution.loss)
+    parts = contributions(solution, options.by)[: options.causes]
     if options.json:
-        print(json.dumps(data_of(setting, solution, bounds, ways, options.causes), indent=2))
+        print(json.dumps(data_of(setting, solution, bounds, ways, parts), indent=2))
     else:
-        print(*told(setting, solution, bounds, ways, options.causes), sep="\n")
+        print(*told(setting, solution, bounds, ways, parts), sep="\n")
     if options.plot:
         hours = [setting.hours * 10 ** (3 * (place / (POINTS - 1) - 1)) for place in range(POINTS)]
         solutions = [setting.with_value("hours", each).solve(ways.of_size) for each in hours]
