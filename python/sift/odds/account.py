@@ -74,5 +74,5 @@ def contributions(solution: Solution, level: str = "way") -> list[Contribution]:
             whole = math.fsum(shares[state].values())
             for key, weight in shares[state].items():
                 found[(*key, state[0])] += probability * weight / whole if whole > 0 else 0.0
-    rows = [Contribution(*key, probability) for key, probability in found.items() if probability > 0]
+    rows = [Contribution._make((*key, probability)) for key, probability in found.items() if probability > 0]
     return sorted(rows, key=lambda row: (-row.probability, str(row)))

@@ -14,7 +14,6 @@ A frame is some phases of exponential length: a time of k frames has the mean th
 smaller the more phases there are. Units that are out after several frames go the same last phases as those that are out after one.
 """
 import math
-from collections import Counter
 from dataclasses import dataclass
 from functools import cached_property
 from typing import Mapping, Optional, Sequence
@@ -46,7 +45,7 @@ class Rates:
     begun: int = 1
     phases: Optional[int] = None
 
-    def __post_init__(self):
+    def __post_init__(self) -> None:
         for name in KINDS:
             rate = getattr(self, name)
             if not (math.isfinite(rate) and rate >= 0):
@@ -102,7 +101,7 @@ class Chain:
         self.spread = overlap / self.phases
         self.speed = self.phases * SECONDS_OF_AN_HOUR / rates.frame  # phases an hour
         self.names: list[tuple] = []
-        self.moves: Counter = Counter()
+        self.moves: dict[tuple[tuple, tuple], float] = {}
         for size in range(start, FEWEST - 1, -1):
             self.add_size(size)
 
@@ -142,7 +141,8 @@ class Chain:
         return (what, size, count) if count else then
 
     def move(self, one: tuple, other: tuple, rate: float) -> None:
-        self.moves[one, other] += rate
+        """One more way from a state to another."""
+        self.moves[one, other] = self.moves.get((one, other), 0.0) + rate
 
     @cached_property
     def states(self) -> list[tuple]:

@@ -11,7 +11,7 @@ import math
 
 import numpy as np
 
-ROUNDING = np.finfo(float).eps
+ROUNDING = float(np.finfo(float).eps)
 MOST_LOST = 1e-3  # the largest relative error that a result may have
 TERMS = 20  # of the series of a matrix whose norm is at most 1: the next term is below the rounding
 

@@ -1,5 +1,5 @@
 """The odds as a picture: over time, or over what varies."""
-from typing import IO, Sequence
+from typing import IO, Any, Sequence
 
 from sift.odds.chain import DEATHS, Solution
 
@@ -8,7 +8,7 @@ TOGETHER = "#cccccc"
 POINTS = 40  # of a curve over time
 
 
-def axes_of(title: str, across: str):
+def axes_of(title: str, across: str) -> Any:
     """A figure and its axes, both logarithmic."""
     import matplotlib
 
@@ -26,7 +26,7 @@ def axes_of(title: str, across: str):
     return figure, axes
 
 
-def write(figure, out: IO[bytes]) -> None:
+def write(figure: Any, out: IO[bytes]) -> None:
     """The figure as SVG, the same bytes for the same numbers."""
     from matplotlib import pyplot
 
