@@ -147,7 +147,7 @@ class Chain:
     @cached_property
     def states(self) -> list[tuple]:
         """All states, the first one first."""
-        found = dict.fromkeys([("well", self.start)])
+        found: dict[tuple, None] = {("well", self.start): None}
         for one, other in self.moves:
             found.setdefault(one)
             found.setdefault(other)
