@@ -61,7 +61,7 @@ fn readings(lab: &Lab, offsets: &[i64], shown: &[Option<i32>], own: u8) -> Array
 }
 
 /// The offset of a working clock after a round.
-pub(crate) fn offset_after(lab: &Lab, offsets: &[i64], shown: &[Option<i32>], own: u8) -> i64
+fn offset_after(lab: &Lab, offsets: &[i64], shown: &[Option<i32>], own: u8) -> i64
     requires round { IsRound (laboratory_of lab.now) offsets.now shown.now }
     requires own { own < working_of (laboratory_of lab.now) }
     ensures { result ≡ offset_after (laboratory_of lab.now) offsets.now shown.now own }

@@ -31,12 +31,7 @@ pub(crate) fn with(
 }
 
 /// The table with one more entry that is a number.
-pub(crate) fn with_number(
-    alloc: Global,
-    entries: Table,
-    key: &str,
-    n: u32,
-) -> Result<Table, NoMemory>
+fn with_number(alloc: Global, entries: Table, key: &str, n: u32) -> Result<Table, NoMemory>
     ensures { IfOk result (λ table. table_view table ≡ placed key.now (number n) (table_view entries)) }
 {
     with(alloc, entries, key, Value::from(n))
@@ -52,7 +47,7 @@ pub(crate) fn array_of_one(alloc: Global, value: Value) -> Result<Value, NoMemor
 }
 
 /// An array of values.
-pub(crate) fn array(values: Vec<Value>) -> Value
+fn array(values: Vec<Value>) -> Value
     ensures { view result ≡ array_of (map view values.items) }
 {
     Value::Array(values)
@@ -61,11 +56,7 @@ pub(crate) fn array(values: Vec<Value>) -> Value
 // ---- sensors
 
 /// The tables of so many sensors, and as many draws as they have words.
-pub(crate) fn sensor_tables(
-    alloc: Global,
-    draw: &mut Draw,
-    sensors: u32,
-) -> Result<Vec<Value>, NoMemory>
+fn sensor_tables(alloc: Global, draw: &mut Draw, sensors: u32) -> Result<Vec<Value>, NoMemory>
     ensures made { IfOk result (λ tables. map view tables.items ≡ sensor_tables sensors draw.old) }
     ensures drawn { IfOk result (λ _. draw.new ≡ after draw.old (words_each * sensors)) }
 {
@@ -110,7 +101,7 @@ fn drawn_words(alloc: Global, draw: &mut Draw) -> Result<Vec<Value>, NoMemory>
 // ---- the fault
 
 /// The table of the fault: which unit is faulty, from which frame on, and the wrong word that it says.
-pub(crate) fn fault_table(
+fn fault_table(
     alloc: Global,
     draw: &mut Draw,
     units: u32,

@@ -18,12 +18,7 @@ use sift_report::ReportLine;
 
 /// Line i of a frame, where there is one: the lines of the units come in their order, and then that of the whole frame. After the
 /// last frame only the last line is left.
-pub(crate) fn line_at<'a>(
-    mission: &Mission,
-    lines: &'a [ReportLine],
-    f: u32,
-    i: u8,
-) -> Option<&'a ReportLine>
+fn line_at<'a>(mission: &Mission, lines: &'a [ReportLine], f: u32, i: u8) -> Option<&'a ReportLine>
     requires frame { f ≤ (data_of mission.now).frames }
     ensures { option_map (λ line. line.now) result ≡ line_at (data_of mission.now) lines.now f i }
 {

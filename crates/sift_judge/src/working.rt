@@ -40,7 +40,7 @@ pub(crate) fn working_at(mission: &Mission, f: u32) -> ArrayVec<UnitId, 8>
 }
 
 /// The lead unit of a frame: the lowest-numbered one that works in it.
-pub(crate) fn lead_in(mission: &Mission, f: u32) -> UnitId
+fn lead_in(mission: &Mission, f: u32) -> UnitId
     ensures { result ≡ lead_in (data_of mission.now) f }
 {
     match working_at(mission, f).first() {

@@ -21,7 +21,7 @@ use std::alloc::Global;
 const TOO_LARGE: u32 = 65_536;
 
 /// How many bytes at the front may stand in a name.
-pub(crate) fn name_len(bytes: &[u8]) -> usize
+fn name_len(bytes: &[u8]) -> usize
     ensures { IsRun IsNameByte bytes.now result }
 {
     for (i, b) in bytes.iter().enumerate() {
@@ -33,7 +33,7 @@ pub(crate) fn name_len(bytes: &[u8]) -> usize
 }
 
 /// How many bytes at the front are digits.
-pub(crate) fn digits_len(bytes: &[u8], radix: u32) -> usize
+fn digits_len(bytes: &[u8], radix: u32) -> usize
     requires low { 2 ≤ radix }
     requires high { radix ≤ 36 }
     ensures { IsRun (λ b. digit_value b < radix) bytes.now result }
@@ -47,7 +47,7 @@ pub(crate) fn digits_len(bytes: &[u8], radix: u32) -> usize
 }
 
 /// What is kept of the number that the digits write.
-pub(crate) fn number_kept(digits: &[u8], radix: u32) -> u32
+fn number_kept(digits: &[u8], radix: u32) -> u32
     requires low { 2 ≤ radix }
     requires high { radix ≤ 36 }
     requires digits { EachIndex digits.now (λ k. digit_value (slice_index digits.now k) < radix) }
@@ -62,7 +62,7 @@ pub(crate) fn number_kept(digits: &[u8], radix: u32) -> u32
 }
 
 /// Whether the bytes begin with what may not follow a number directly: a letter or `_`.
-pub(crate) fn continues_number(bytes: &[u8]) -> bool
+fn continues_number(bytes: &[u8]) -> bool
     ensures { IsTrue result ↔ Continues bytes.now }
 {
     match bytes {
@@ -72,7 +72,7 @@ pub(crate) fn continues_number(bytes: &[u8]) -> bool
 }
 
 /// Whether the bytes begin with a lower-case letter, as a word does.
-pub(crate) fn begins_name(bytes: &[u8]) -> bool
+fn begins_name(bytes: &[u8]) -> bool
     ensures { IsTrue result ↔ BeginsLetter bytes.now }
 {
     match bytes {
@@ -82,7 +82,7 @@ pub(crate) fn begins_name(bytes: &[u8]) -> bool
 }
 
 /// Whether the bytes begin with a digit, as a number does.
-pub(crate) fn begins_number(bytes: &[u8]) -> bool
+fn begins_number(bytes: &[u8]) -> bool
     ensures { IsTrue result ↔ BeginsDigit bytes.now }
 {
     match bytes {
@@ -194,7 +194,7 @@ fn number_at(bytes: &[u8]) -> Option<(u32, usize)>
 }
 
 /// The lexeme at the front, and how many bytes it has.
-pub(crate) fn lexeme_at(bytes: &[u8]) -> Option<(Lexeme<'_>, usize)>
+fn lexeme_at(bytes: &[u8]) -> Option<(Lexeme<'_>, usize)>
     ensures found { IfSome result (λ r. IsLexemeAt bytes.now (lexeme_of r.0) r.1) }
     ensures none { IfNone result (NoLexemeAt bytes.now) }
 {

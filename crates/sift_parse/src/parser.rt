@@ -22,7 +22,7 @@ const PRIM_LEVEL: u8 = 5;
 const COMPARISON_LEVEL: u8 = 0;
 
 /// An expression.
-pub(crate) fn expr(alloc: Global, tokens: &mut Tokens<'_>) -> Result<Expr, ReadStop>
+fn expr(alloc: Global, tokens: &mut Tokens<'_>) -> Result<Expr, ReadStop>
     ensures reads { Reading term_of (λ fuel. read fuel 0) tokens.old.rest.now result tokens.new.rest.now }
     ensures goes_on { OnOk result (length tokens.new.rest.now < length tokens.old.rest.now) }
 {

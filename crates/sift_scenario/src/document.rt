@@ -17,7 +17,7 @@ use crate::entries::{Sensors, Tasks, sensors_of, tasks_of};
 use sift_base::Stop;
 use sift_document::{BrokenRule, broken, has_only_keys, number_at, optional_between};
 use sift_script::Script;
-use sift_sections::{check_sheds, stated_clocks, script_of, tables_of};
+use sift_sections::{check_sheds, script_of, stated_clocks, tables_of};
 use sift_skew::ClockPlan;
 use sift_table::Table;
 use std::alloc::Global;
@@ -35,7 +35,7 @@ pub(crate) struct Root {
 }
 
 /// What the root states beside its entries.
-pub(crate) fn root_of(document: &toml::Table) -> Result<Root, Stop<BrokenRule>>
+fn root_of(document: &toml::Table) -> Result<Root, Stop<BrokenRule>>
     ensures version { IfOk result (λ root. version_of (table_view document.now) ≡ Some root.version) }
     ensures units { IfOk result (λ root. units_of (table_view document.now) ≡ Some root.units) }
     ensures frames { IfOk result (λ root. frames_of (table_view document.now) ≡ Some root.frames) }

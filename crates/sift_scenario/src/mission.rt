@@ -35,7 +35,7 @@ use std::alloc::Global;
 // ---- the checks of tables and of the script
 
 /// The tables, each of which has to be good for tasks of these shapes.
-pub(crate) fn check_tables(
+fn check_tables(
     alloc: Global,
     tables: Vec<Table>,
     shapes: &Shapes,
@@ -71,7 +71,7 @@ fn good_table(table: Table, shapes: &Shapes) -> Result<GoodTable, Stop<Refused>>
 }
 
 /// The script, which has to be good for a mission of this layout, with tasks of these shapes and so many frames.
-pub(crate) fn check_script(
+fn check_script(
     script: Script,
     layout: &Layout,
     shapes: &Shapes,
@@ -115,7 +115,7 @@ pub enum Refused {
 }
 
 /// The refusal of a rule, or want of memory.
-pub(crate) fn rule_refused(stop: Stop<BrokenRule>) -> Stop<Refused>
+fn rule_refused(stop: Stop<BrokenRule>) -> Stop<Refused>
     ensures { result ≡ rule_refusal_of stop }
 {
     match stop {

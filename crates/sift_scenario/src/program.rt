@@ -34,7 +34,7 @@ use std::alloc::Global;
 
 /// The names that the texts of tasks may use, where these are the sensors' names, and the tasks' names
 /// and start words.
-pub(crate) fn names_for(
+fn names_for(
     alloc: Global,
     sensors: &[Name],
     names: &[Name],
@@ -60,7 +60,7 @@ pub(crate) fn names_for(
 }
 
 /// The start words of all tasks, in their order.
-pub(crate) fn all_starts(alloc: Global, starts: &[Starts]) -> Result<Vec<Word>, NoMemory>
+fn all_starts(alloc: Global, starts: &[Starts]) -> Result<Vec<Word>, NoMemory>
     ensures { IfOk result (λ all. all.items ≡ flat_map (λ words. words.items) starts.now) }
 {
     let mut all = Vec::new(alloc);
@@ -82,7 +82,7 @@ pub(crate) struct Compiled {
 
 /// The trees and the code of the tasks of these forms, each in its turn. There are so many sensors and
 /// output words.
-pub(crate) fn compile_tasks(
+fn compile_tasks(
     alloc: Global,
     forms: &[Form<'_>],
     names: &mut Names,

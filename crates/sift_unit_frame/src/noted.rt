@@ -187,7 +187,13 @@ impl Memory {
     }
 
     /// Notes the agreed report of a unit.
-    fn note_report(&mut self, config: &Config, unit: UnitId, of: UnitId, places: &[Option<Word>; UNIT_LIMIT])
+    fn note_report(
+        &mut self,
+        config: &Config,
+        unit: UnitId,
+        of: UnitId,
+        places: &[Option<Word>; UNIT_LIMIT],
+    )
         ensures noted { (m : FlownMission) (f : ℕ) (clk : ℤ) (last : List ℕ) → memory_of self.new ≡ note_of m config.now unit f clk last (RelayReport of) places.now (memory_of self.old) }
         ensures before { self.new.words.before ≡ self.old.words.before }
     {
@@ -197,7 +203,7 @@ impl Memory {
 }
 
 /// The place of a unit.
-pub(crate) fn place_of(places: &[Option<Word>; UNIT_LIMIT], unit: UnitId) -> Option<Word>
+fn place_of(places: &[Option<Word>; UNIT_LIMIT], unit: UnitId) -> Option<Word>
     ensures { result ≡ place_at places.now unit }
 {
     places[usize::from(unit.get())]
@@ -266,7 +272,7 @@ fn relays_of(
 // ---- the other clocks
 
 /// The next offset, by what was heard of the others' clocks.
-pub(crate) fn next_offset(
+fn next_offset(
     mission: &Mission,
     config: &Config,
     unit: UnitId,
@@ -321,7 +327,7 @@ fn reading_of(
 }
 
 /// The other units whose clock is absent or too far away.
-pub(crate) fn far_clocks(
+fn far_clocks(
     mission: &Mission,
     config: &Config,
     unit: UnitId,
