@@ -81,6 +81,7 @@ pub fn run_lab<F: Face>(alloc: Global, lab: &Lab, face: &mut F) -> Result<LabRun
     ensures kept { IfOk result (λ run. IsKept (laboratory_of lab.now) (run_of run).offsets) }
     ensures untouched { OnErr result (face.new ≡ face.old) }
 {
+    // All memory is taken before the first round, so where it is wanting no clock has shown anything.
     let mut run = starting_run(alloc, lab)?;
     let mut pages = blank_pages(alloc, lab)?;
     while let Some(page) = pages.pop() {

@@ -162,6 +162,7 @@ fn other_digits(alloc: Global, units: u32, unit: u32) -> Result<String, NoMemory
 pub fn scenario_tree(alloc: Global, number: u64) -> Result<Table, NoMemory>
     ensures { IfOk result (λ tree. table_view tree ≡ tree_of number) }
 {
+    // The order of the draws is part of what a number means: in another one each number would be another mission.
     let mut draw = Draw::of(number);
     let units = 5 + drawn(&mut draw, 4);
     let frames = 20 + drawn(&mut draw, 181);
@@ -206,6 +207,7 @@ pub fn scenario_text(alloc: Global, number: u64) -> Result<String, NoMemory>
     let tree = scenario_tree(alloc, number)?;
     match toml::table_to_string(alloc, &tree) {
         Ok(text) => Ok(text),
+        // A tree of texts and whole numbers has a text, so only memory can have been wanting.
         Err(_) => Err(NoMemory),
     }
 }

@@ -45,6 +45,7 @@ fn lead_in(mission: &Mission, f: u32) -> UnitId
 {
     match working_at(mission, f).first() {
         Some(unit) => *unit,
+        // Some unit always works, so the first one stands here for nobody.
         None => mission.everyone().unit_at(0),
     }
 }

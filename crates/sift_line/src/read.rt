@@ -159,6 +159,7 @@ fn split_fields<'a>(line: &'a str) -> Option<ArrayVec<&'a str, 8>>
     ensures split { IfSome result (λ fields. map (λ f. f.now) fields.items ≡ slice_split (λ b. b == blank) line.now) }
     ensures too_many { IfNone result (8 < length (slice_split (λ b. b == blank) line.now)) }
 {
+    // No line has more than eight fields, so what has more is none.
     let mut fields = ArrayVec::new();
     for field in line.split(' ') {
         fields.try_push(field).ok()?;

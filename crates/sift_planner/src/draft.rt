@@ -59,6 +59,7 @@ impl Draft {
         ensures shut { IfNone result ((subframe : ℕ) →
             ¬ IsOpen (drafted self.now) self.now.executors needs.now (rows_in self.now) subframe) }
     {
+        // From this subframe on a task would be polled after the reports are made.
         let end = self.table.period - REPORT_LEAD - HEARING_DELAY + 1;
         for subframe in AGREED_IN..end {
             if self.is_open(needs, subframe) {

@@ -180,6 +180,7 @@ pub fn mission_of(alloc: Global, document: &toml::Table) -> Result<Mission, Stop
         → IfErr result (λ why. why ≡ Stop.NoMemory) }
     ensures exact { (owed : Refused) → IsRefusedWith (table_view document.now) owed → OnlyRefuses owed result }
 {
+    // What is told is the first that is wrong in this order: a rule, a text, a table, the script.
     let entries = lawful_entries(alloc, document)?;
     let running = run_entries(alloc, &entries)?;
     assemble(alloc, entries, running)
