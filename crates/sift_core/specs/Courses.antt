@@ -8,8 +8,8 @@ use Rattle.sift_script.specs.Faults.{storm_of}
 use Rattle.sift_script.specs.declared.script.StormEntry.{StormEntry}
 use Rattle.sift_rogue.specs.declared.act.Shot.{Shot}
 use Rattle.sift_rogue.specs.Storms.{Call, Started, Shoots, sifted, stray_of}
-use Rattle.sift_unit.specs.declared.stepped.Stepped.{Stepped}
-use Rattle.sift_unit.specs.declared.stepped.Stepped.TheVariants.{Moved, NotYet, Turned, Landed}
+use Rattle.sift_unit.specs.declared.board.Stepped.{Stepped}
+use Rattle.sift_unit.specs.declared.board.Stepped.TheVariants.{Moved, NotYet, Turned, Landed}
 use Rattle.sift_core.specs.Machines.{distances, layout_of}
 use Rattle.sift_core.specs.Steps.{StepsUnit, Stores}
 use Rattle.sift_core.specs.declared.machine.Machine.{Machine}

@@ -3,8 +3,8 @@ use Rattle.std.proofs.Common.{◌≡◌, ℕ, List, map, true, false, not, ◌&&
 use Rattle.std.specs.Prelude.{◌+ℤ◌}
 use Rattle.std.specs.FinSet as set
 use Rattle.sift_base.specs.Units.{has, has_bit, bits_of}
-use Rattle.sift_base.specs.declared.slot.Slot.{Slot}
-use Rattle.sift_base.specs.declared.slot.Slot.TheVariants.{Clock, Sense, RelaySense, Out, Report, RelayReport}
+use Rattle.sift_base.specs.declared.slots.Slot.{Slot}
+use Rattle.sift_base.specs.declared.slots.Slot.TheVariants.{Clock, Sense, RelaySense, Out, Report, RelayReport}
 use Rattle.sift_base.specs.laws.Sets.{same_units}
 use Rattle.sift_base.specs.laws.Ranges.{any-same}
 use Rattle.sift_vote.specs.Majority.{agreed_of, majority_of, differs}

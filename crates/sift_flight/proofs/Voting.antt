@@ -7,7 +7,7 @@ use Rattle.std.proofs.lemmas.Bool.Decides.{eqb_tells}
 use Rattle.std.proofs.lemmas.List.{length-map}
 use Rattle.std.proofs.lemmas.Grind.{same_number_lists}
 use Rattle.sift_base.specs.Units.{has}
-use Rattle.sift_base.specs.declared.slot.Slot.TheVariants.{Out}
+use Rattle.sift_base.specs.declared.slots.Slot.TheVariants.{Out}
 use Rattle.sift_base.specs.laws.Counts.{count-cons, of_filtered, in_filtered}
 use Rattle.sift_vote.specs.Majority.{IsMajority, differs}
 use Rattle.sift_vote.specs.laws.Found.{majority_is_found}

@@ -2,13 +2,13 @@
 use Rattle.std.proofs.Common.{◌≡◌, inl, inr, sym, ap, ◌∙◌, arith}
 use Rattle.sift_flight.specs.Flight.{Strays}
 use Rattle.sift_load.specs.Loads.{reply_to}
-use Rattle.sift_load.specs.declared.no_mission.NoMission.{NoMission}
-use Rattle.sift_load.specs.declared.no_mission.NoMission.TheVariants.{NotADocument, Refused}
+use Rattle.sift_load.specs.declared.loading.NoMission.{NoMission}
+use Rattle.sift_load.specs.declared.loading.NoMission.TheVariants.{NotADocument, Refused}
 use Rattle.sift_mission.specs.Data.{MissionData}
 use Rattle.sift_reply.specs.Reply.{Reply, done_status}
 use Rattle.sift_report.specs.Printed.{HeadlineIsPrinted}
 use Rattle.sift_scenario.specs.Laws.{StatedMissionsFit}
-use Rattle.sift_scenario.specs.declared.refused.Refused.TheVariants.{Scenario, Task, Table, Script}
+use Rattle.sift_scenario.specs.declared.mission.Refused.TheVariants.{Scenario, Task, Table, Script}
 use Rattle.sift_jobs.specs.Run.{RunIsHeadlined}
 
 -- no reply to bytes that state no mission has the status 0

@@ -7,8 +7,8 @@ use Rattle.sift_mission.specs.Data.{MissionData}
 use Rattle.sift_options.specs.Options.{within}
 use Rattle.sift_options.specs.declared.setting.Options.{Options}
 use Rattle.sift_reply.specs.Reply.{Reply, done_status}
-use Rattle.sift_line.specs.declared.version.Version.{Version}
-use Rattle.sift_line.specs.declared.version.Version.TheVariants.{One, Two}
+use Rattle.sift_line.specs.declared.line.Version.{Version}
+use Rattle.sift_line.specs.declared.line.Version.TheVariants.{One, Two}
 use Rattle.sift_mission.specs.Flown.{flown}
 use Rattle.sift_report.specs.Headline.{ReportHeadline}
 use Rattle.sift_report.specs.Sheet.{sheet_of}

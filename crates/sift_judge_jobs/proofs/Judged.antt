@@ -4,7 +4,7 @@ use Rattle.sift_flight.specs.Flight.{Strays}
 use Rattle.sift_jobs.specs.Run.{IsHeadlined, RunIsHeadlined}
 use Rattle.sift_judge.specs.Laws.{OneVerdict}
 use Rattle.sift_judge.specs.Verdict.{IsVerdict}
-use Rattle.sift_judge.specs.declared.verdict.Verdict.TheVariants.{Yes}
+use Rattle.sift_judge.specs.declared.judging.Verdict.TheVariants.{Yes}
 use Rattle.sift_load.specs.Laws.{OneMissionIsStated, StatedMissionsAreUnrefused}
 use Rattle.sift_load.specs.Loads.{LoadsThen, States}
 use Rattle.sift_mission.specs.Data.{MissionData}
@@ -14,7 +14,7 @@ use Rattle.sift_report.specs.Sheet.{sheet_of}
 use Rattle.sift_line.specs.Texts.{LinesComeApart, texts_of}
 use Rattle.sift_report.specs.Versions.{SheetsHaveTheirVersion}
 use Rattle.sift_line.specs.declared.line.ReportLine.{ReportLine}
-use Rattle.sift_line.specs.declared.version.Version.{Version}
+use Rattle.sift_line.specs.declared.line.Version.{Version}
 use Rattle.sift_judge_jobs.specs.Divided.{AreDivided}
 use Rattle.sift_judge_jobs.specs.Judge.{JudgeGives, ReportGives, told}
 use Rattle.sift_judge_jobs.specs.Judged.{RunsAreJudgedYes}

@@ -9,7 +9,7 @@ use Rattle.sift_base.specs.laws.Ranges.{range-low}
 use Rattle.sift_exec.specs.Conviction.{everyone_in}
 use Rattle.sift_mission.specs.Data.{MissionData}
 use Rattle.sift_mission.specs.Flown.{flown}
-use Rattle.sift_line.specs.declared.version.Version.{Version}
+use Rattle.sift_line.specs.declared.line.Version.{Version}
 use Rattle.sift_line.specs.declared.line.ReportLine.{ReportLine}
 use Rattle.sift_conduct.specs.Conduct.{caught}
 use Rattle.sift_flight.specs.Figures.{HasMarginAt, Works, config_at, lead_of, next_offsets_at, offsets_at, working_at, skew_of, slack_of}

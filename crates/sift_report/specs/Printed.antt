@@ -8,7 +8,7 @@ use Rattle.sift_flight.specs.Flight.{Flight, Strays, IsRound}
 use Rattle.sift_flight.specs.Headline.{agreed_at}
 use Rattle.sift_report.specs.Headline.{ReportHeadline}
 use Rattle.sift_report.specs.Sheet.{sheet_of}
-use Rattle.sift_line.specs.declared.version.Version.{Version}
+use Rattle.sift_line.specs.declared.line.Version.{Version}
 use Rattle.sift_report.specs.Told.{HasMarginTold, agreed_told, config_told}
 
 -- the sheet of each round flight of a mission whose parts fit has the headline, in each version

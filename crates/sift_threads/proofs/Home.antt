@@ -9,7 +9,7 @@ use Rattle.sift_buffer.specs.Tables.{ranges_of}
 use Rattle.sift_buffer.specs.Views.{View, fresh_view}
 use Rattle.sift_mission.specs.Parts.{data_of}
 use Rattle.sift_mission.specs.PartsFit.{PartsFit}
-use Rattle.sift_mission.specs.declared.parts.MissionParts.{MissionParts}
+use Rattle.sift_mission.specs.declared.mission.MissionParts.{MissionParts}
 use Rattle.sift_conduct.specs.declared.account.Account.{Account as TheAccount}
 use Rattle.sift_rogue.specs.Storms.{Call}
 use Rattle.sift_unit.specs.Down.{DownLaw}

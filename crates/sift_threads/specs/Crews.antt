@@ -3,7 +3,7 @@ use Rattle.std.specs.Prelude.{◌≡◌, ℕ, ◌<◌, ◌≤◌, List, ◌++◌
 use Rattle.std.specs.List.{AllZip}
 use Rattle.std.specs.declared.alloc.Global.{Global}
 use Rattle.sift_mission.specs.Parts.{data_of}
-use Rattle.sift_mission.specs.declared.parts.MissionParts.{MissionParts}
+use Rattle.sift_mission.specs.declared.mission.MissionParts.{MissionParts}
 use Rattle.sift_conduct.specs.declared.account.Account.{Account}
 use Rattle.sift_rogue.specs.Storms.{Call}
 use Rattle.sift_ether.specs.Seating.{IsSeatOf, IsTokenBack}
