@@ -1,6 +1,6 @@
 use Rattle.std.proofs.Common.{◌≤◌, []}
 use Rattle.sift_buffer.specs.Views.{LooksRound}
-use Rattle.sift_buffer.proofs.gate.find_behind.Given as goal
+use Rattle.sift_buffer.proofs.port.find_behind.Given as goal
 
 -- each other unit below the number was looked at, and found at the own progress or more
 abbrev pub invariant-loop-number : goal.invariant-loop-number

@@ -5,7 +5,7 @@ use Rattle.sift_buffer.specs.Ledgers.{Ledger}
 use Rattle.sift_buffer.specs.Crews.{no_ledger}
 use Rattle.sift_buffer.specs.declared.rack.Rack.{Rack}
 use Rattle.sift_buffer.proofs.RackEvents.{lent, follows_by}
-use Rattle.sift_buffer.proofs.rack.Rack.leave.Goals as goal
+use Rattle.sift_buffer.proofs.rack_port.RackPort.leave.Goals as goal
 
 pub note_turned-requires : goal.note_turned-requires
 note_turned-requires c =

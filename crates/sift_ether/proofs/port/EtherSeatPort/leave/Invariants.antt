@@ -1,5 +1,5 @@
 use Rattle.sift_ether.specs.Steps.{deed_of}
-use Rattle.sift_ether.proofs.seat.EtherSeat.leave.Given as goal
+use Rattle.sift_ether.proofs.port.EtherSeatPort.leave.Given as goal
 
 -- the deed of the call
 abbrev pub ghosts-store : goal.ghosts-store

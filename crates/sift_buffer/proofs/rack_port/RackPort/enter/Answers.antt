@@ -8,7 +8,7 @@ use Rattle.sift_buffer.specs.Racks.{conduct_at}
 use Rattle.sift_buffer.specs.declared.rack.Rack.{Rack}
 use Rattle.sift_buffer.proofs.Beside.{may_enter}
 use Rattle.sift_buffer.proofs.RackEvents.{lent, follows_by}
-use Rattle.sift_buffer.proofs.rack.Rack.go_on.Goals as goal
+use Rattle.sift_buffer.proofs.rack_port.RackPort.enter.Goals as goal
 
 pub returns-clause-follows : goal.returns-clause-follows
 returns-clause-follows c =
