@@ -1,13 +1,48 @@
-//! A unit at its seat as a port.
+//! A unit takes its seat, is a port there, and leaves it.
+ghost use Rattle.sift_ether.specs.Tokens.{IsTokenOf};
+ghost use Rattle.sift_ether.specs.Seating.{IsSeatOf, IsTokenBack};
 ghost use Rattle.sift_ether.specs.Seats.{view_of, Follows, Stands};
 ghost use Rattle.sift_ether.specs.Following.{itself, further};
 
-use crate::call::Call;
-use crate::seat::EtherSeat;
-use crate::steps::{load, store};
+use crate::ether::Ether;
+use crate::seat::{EtherSeat, Token};
+use crate::steps::{Call, load, store};
 use sift_base::{UnitId, Word};
 use sift_buffer::{Look, Port, pack, take};
 use std::marker::Brand;
+
+impl Ether {
+    /// The token's unit at its seat. This makes no step.
+    pub fn seat(&self, token: Token) -> EtherSeat<'_>
+        requires { IsTokenOf self.now token }
+        ensures { IsSeatOf self.now token result }
+    {
+        let Token { seat, unit, acts } = token;
+        EtherSeat {
+            words: &self.table.shared,
+            grid: self.grid,
+            seat,
+            unit,
+            acts,
+        }
+    }
+}
+
+impl EtherSeat<'_> {
+    /// The unit's token, with all that the unit did at the seat. This makes no step.
+    pub fn end(self) -> Token
+        ensures { IsTokenBack self.entry result }
+    {
+        let EtherSeat {
+            words: _,
+            grid: _,
+            seat,
+            unit,
+            acts,
+        } = self;
+        Token { seat, unit, acts }
+    }
+}
 
 impl Look for EtherSeat<'_> {
     ghost view = { view_of };

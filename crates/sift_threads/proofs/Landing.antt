@@ -13,7 +13,7 @@ use Rattle.sift_rogue.specs.Storms.{Call}
 use Rattle.sift_ether.specs.Landed.{HaveLanded}
 use Rattle.sift_ether.specs.Tokens.{IsMade, conduct_at}
 use Rattle.sift_ether.specs.declared.ether.Ether.{Ether}
-use Rattle.sift_ether.specs.declared.token.Token.{Token}
+use Rattle.sift_ether.specs.declared.seat.Token.{Token}
 use Rattle.sift_mission.specs.Data.{MissionData, FlownMission}
 use Rattle.sift_mission.specs.Fits.{Fits}
 use Rattle.sift_mission.specs.Flown.{flown}

@@ -11,7 +11,7 @@ use Rattle.sift_ether.specs.Seats.{Follows, view_of}
 use Rattle.sift_ether.specs.Tokens.{IsMade}
 use Rattle.sift_ether.specs.declared.ether.Ether.{Ether}
 use Rattle.sift_ether.specs.declared.seat.EtherSeat.{EtherSeat}
-use Rattle.sift_ether.specs.declared.token.Token.{Token}
+use Rattle.sift_ether.specs.declared.seat.Token.{Token}
 use Rattle.sift_unit.specs.declared.board.Board.{Board}
 use Rattle.sift_threads.specs.Flown.{HaveFlown}
 use Rattle.sift_threads.specs.Seats.{IsManned, IsDone, Comes}
