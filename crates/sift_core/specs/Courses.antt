@@ -6,7 +6,7 @@ use Rattle.sift_mission.specs.Data.{MissionData}
 use Rattle.sift_mission.specs.Flown.{flown}
 use Rattle.sift_script.specs.Faults.{storm_of}
 use Rattle.sift_script.specs.declared.script.StormEntry.{StormEntry}
-use Rattle.sift_rogue.specs.declared.act.Shot.{Shot}
+use Rattle.sift_rogue.specs.declared.rogue.Shot.{Shot}
 use Rattle.sift_rogue.specs.Storms.{Call, Started, Shoots, sifted, stray_of}
 use Rattle.sift_unit.specs.declared.stepped.Stepped.{Stepped}
 use Rattle.sift_unit.specs.declared.stepped.Stepped.TheVariants.{Moved, NotYet, Turned, Landed}
