@@ -24,7 +24,7 @@ use Rattle.sift_ether.specs.declared.seat.Token.{Token}
 use Rattle.sift_threads.specs.Crews.{IsSeated, AreSeated, AreLeft, ComeHome}
 use Rattle.sift_threads.specs.Flown.{HasFlown, HaveFlown}
 use Rattle.sift_threads.specs.Seats.{IsManned, IsDone, Came, Comes}
-use Rattle.sift_threads.specs.declared.flown.Flown.{Flown}
+use Rattle.sift_threads.specs.declared.flight.Flown.{Flown}
 use Rattle.sift_threads.specs.declared.seat.Seat.{Seat}
 use Rattle.sift_threads.proofs.Homing.{came_first, flown_as}
 use Rattle.sift_threads.proofs.Landing.{some_item}

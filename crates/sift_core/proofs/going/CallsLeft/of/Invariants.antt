@@ -2,7 +2,7 @@ use Rattle.std.proofs.Common.{◌≡◌, ℕ, ◌<◌, ◌≤◌, length, slice_
 use Rattle.sift_base.specs.Units.{unit_limit}
 use Rattle.sift_mission.specs.Parts.{data_of}
 use Rattle.sift_core.specs.Courses.{calls_of, storm_at}
-use Rattle.sift_core.proofs.calls.CallsLeft.of.Given as goal
+use Rattle.sift_core.proofs.going.CallsLeft.of.Given as goal
 
 -- the calls of the units below the number
 abbrev pub invariant-loop-number : goal.invariant-loop-number

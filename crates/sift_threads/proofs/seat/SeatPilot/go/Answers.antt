@@ -1,4 +1,4 @@
-use Rattle.sift_threads.proofs.piloting.SeatPilot.go.Goals as goal
+use Rattle.sift_threads.proofs.seat.SeatPilot.go.Goals as goal
 
 pub returns-in-Some-clause-home : goal.returns-in-Some-clause-home
 returns-in-Some-clause-home g c = λ home. (c.stray_on.ensures.manned, c.stray_on.ensures.done home)
