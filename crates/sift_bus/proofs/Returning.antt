@@ -17,7 +17,7 @@ use Rattle.sift_ether.specs.Seating.{IsTokenBack, TokensComeBack, ComesBack}
 use Rattle.sift_ether.specs.Seats.{view_of, Follows}
 use Rattle.sift_ether.specs.Tokens.{AreTokensOf, IsMade, IsTokenOf, conduct_at, conduct_of}
 use Rattle.sift_ether.specs.declared.ether.Ether.{Ether}
-use Rattle.sift_ether.specs.declared.token.Token.{Token}
+use Rattle.sift_ether.specs.declared.seat.Token.{Token}
 use Rattle.sift_mission.specs.Data.{MissionData, FlownMission}
 use Rattle.sift_mission.specs.Fits.{Fits}
 use Rattle.sift_mission.specs.Flown.{flown}

@@ -8,7 +8,7 @@ use Rattle.sift_mission.specs.Data.{FlownMission}
 use Rattle.sift_unit.specs.Boards.{Drives}
 use Rattle.sift_ether.specs.Tokens.{IsMade, IsTokenOf, token_view}
 use Rattle.sift_ether.specs.declared.ether.Ether.{Ether}
-use Rattle.sift_ether.specs.declared.token.Token.{Token}
+use Rattle.sift_ether.specs.declared.seat.Token.{Token}
 use Rattle.sift_bus.specs.Boarding.{AreBoarded, Boarded, IsBoarded, IsNewToken, seat_view}
 
 -- a list that is as long as itself and others together is all of them

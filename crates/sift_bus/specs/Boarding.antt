@@ -10,7 +10,7 @@ use Rattle.sift_ether.specs.Seats.{view_of}
 use Rattle.sift_ether.specs.Tokens.{IsTokenOf, token_view}
 use Rattle.sift_ether.specs.declared.ether.Ether.{Ether}
 use Rattle.sift_ether.specs.declared.seat.EtherSeat.{EtherSeat}
-use Rattle.sift_ether.specs.declared.token.Token.{Token}
+use Rattle.sift_ether.specs.declared.seat.Token.{Token}
 use Rattle.sift_bus_port.specs.Links.{first_link, link_of}
 use Rattle.sift_bus_port.specs.Logs.{blank_log}
 use Rattle.sift_bus.specs.declared.flying.Flyer.{Flyer}

@@ -16,7 +16,7 @@ use Rattle.sift_buffer.specs.Racks.{ranges_for}
 use Rattle.sift_buffer.specs.declared.rack.Rack.{Rack}
 use Rattle.sift_config.specs.laws.FirstUnits.{low_unit, unit_low}
 use Rattle.sift_rogue.specs.Storms.{Call, Started, Shoots, sifted, stray_of, StormsBy}
-use Rattle.sift_rogue.specs.declared.act.Shot.{Shot}
+use Rattle.sift_rogue.specs.declared.rogue.Shot.{Shot}
 use Rattle.sift_script.specs.declared.script.StormEntry.{StormEntry}
 use Rattle.sift_mission.specs.Data.{MissionData}
 use Rattle.sift_mission.specs.Flown.{flown}

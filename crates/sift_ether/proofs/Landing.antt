@@ -8,7 +8,7 @@ use Rattle.sift_buffer.specs.Conduct.{Conduct, never, hearing, stray_to}
 use Rattle.sift_buffer.specs.Core.{Core}
 use Rattle.sift_buffer.specs.Lawful.{Lawful, HasStage, IsLastSaid, HasStamps, IsNear, IsFromSayings, IsFromStrays}
 use Rattle.sift_buffer.specs.Ledgers.{HasItsWords}
-use Rattle.sift_ether.specs.declared.token.Token.{Token}
+use Rattle.sift_ether.specs.declared.seat.Token.{Token}
 use Rattle.sift_ether.specs.Landed.{IsJournalFrom}
 use Rattle.sift_ether.specs.Rule.{TellConduct}
 use Rattle.sift_ether.specs.Tokens.{IsAt, chronicle_in, conduct_of, conduct_at}

@@ -4,7 +4,7 @@ use Rattle.sift_base.specs.declared.slots.Layout.{Layout}
 use Rattle.sift_buffer.specs.Journals.{Pages, IsJournalOf, HasWordsOf}
 use Rattle.sift_buffer.specs.Lawful.{Lawful}
 use Rattle.sift_buffer.specs.Tables.{ranges_of}
-use Rattle.sift_ether.specs.declared.token.Token.{Token}
+use Rattle.sift_ether.specs.declared.seat.Token.{Token}
 use Rattle.sift_ether.specs.Tokens.{conduct_at}
 
 -- it is the journal of this unit, and has its words

@@ -13,7 +13,7 @@ use Rattle.sift_rogue.specs.Storms.{Call}
 use Rattle.sift_ether.specs.Landed.{HaveLanded}
 use Rattle.sift_ether.specs.Tokens.{IsMade, conduct_at}
 use Rattle.sift_ether.specs.declared.ether.Ether.{Ether}
-use Rattle.sift_ether.specs.declared.token.Token.{Token}
+use Rattle.sift_ether.specs.declared.seat.Token.{Token}
 use Rattle.sift_mission.specs.Data.{MissionData, FlownMission}
 use Rattle.sift_mission.specs.Fits.{Fits}
 use Rattle.sift_mission.specs.Flown.{flown}
@@ -27,7 +27,7 @@ use Rattle.sift_flight.specs.Told.{told, no_account, accounts_of, IsLogged}
 use Rattle.sift_flight.specs.declared.flight.Flight.{Flight as TheFlight}
 use Rattle.sift_core.specs.Storms.{IsRoundByRogues}
 use Rattle.sift_threads.specs.Flown.{HaveFlown, HasFlown}
-use Rattle.sift_threads.specs.declared.flown.Flown.{Flown}
+use Rattle.sift_threads.specs.declared.flight.Flown.{Flown}
 
 -- an item of a list that has one
 pub some_item : {A : Type 0} (xs : List A) (n : ℕ) → n < length xs → A
