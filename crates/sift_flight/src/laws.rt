@@ -1,6 +1,7 @@
 //! The laws of flights: where round flights come from, that there is one and at most one, and the headline.
 
 ghost use Rattle.sift_flight.specs.Calms.{CalmMissionsFly};
+ghost use Rattle.sift_flight.specs.Caught.{LiarsAreOut, OwnWordsCostNothing};
 ghost use Rattle.sift_flight.specs.Existence.{AtMostOneHearsThem, EachMissionHasARoundFlight, EachStrayHearingHasARoundFlight};
 ghost use Rattle.sift_flight.specs.Headline.{HeadlineHolds};
 ghost use Rattle.sift_flight.specs.Homing.{FlightsThatComeHomeAreRound};
@@ -54,6 +55,18 @@ pub fn at_most_one_flight_is_round()
 /// ideal machine's outputs, no false accusation, exact removal, and clocks within the skew.
 pub fn headline_holds()
     ensures { HeadlineHolds }
+{}
+
+/// In each frame with margin of a round flight: a working unit that is lied to catches the liar, and
+/// whoever lies to two of them is out of the next configuration.
+pub fn liars_are_out()
+    ensures { LiarsAreOut }
+{}
+
+/// Whoever says its own words in such a frame is caught by no working unit, whatever it reports of
+/// others and whatever it said before.
+pub fn own_words_cost_nothing()
+    ensures { OwnWordsCostNothing }
 {}
 
 /// Two small missions meet all premises of these laws: they can be flown, their core and boards have

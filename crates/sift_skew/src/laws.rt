@@ -7,6 +7,7 @@ ghost use Rattle.sift_skew.specs.Keeping.{
   SkewIsKept,
   SkewIsKeptWithoutFaults,
   SkewIsKeptWithMargin,
+  ReadersAreKeptWithMargin,
   WordsAreReadRight,
   HeardClocksAreReadWell,
 };
@@ -46,6 +47,11 @@ pub fn skew_is_kept_without_faults()
 /// In a configuration with margin, `S >= 5 * (E + R)` keeps the skew.
 pub fn skew_is_kept_with_margin()
     ensures { SkewIsKeptWithMargin }
+{}
+
+/// There it keeps the skew of all who read the working clocks well, whether or not their own are read well.
+pub fn readers_are_kept_with_margin()
+    ensures { ReadersAreKeptWithMargin }
 {}
 
 /// Clock words tell offsets apart that are no farther apart than the largest skew.
