@@ -131,8 +131,12 @@ module _ (m : FlownMission) (strays : Strays) (fl : Flight) (f : ℕ) (us : List
   -- the margin is theirs too
   pub margin_in : HasMargin hearers us
   margin_in = record {
-    few = omega (arith, here.margin.few, count-≤ (λ v. not (hearers v)) (λ v. not (m.works v f)) us
-        (λ v hv t. elim (cases_Bool (m.works v f)) [ inr f ↦ ap not f | inl w ↦ absurd (true≢false (sym t ∙ rw w refl)) ]));
+    few = omega (
+      arith,
+      here.margin.few,
+      count-≤ (λ v. not (hearers v)) (λ v. not (m.works v f)) us
+          (λ v hv t. elim (cases_Bool (m.works v f)) [ inr f ↦ ap not f | inl w ↦ absurd (true≢false (sym t ∙ rw w refl)) ]),
+    );
     enough = omega (arith, here.margin.enough, count-≤ (λ v. m.works v f) hearers us (λ v hv. wider v));
   }
 

@@ -1,4 +1,5 @@
 mod Alike
+mod CaughtLines
 mod CompiledFrames
 mod FrameLines
 mod HeadlineLines

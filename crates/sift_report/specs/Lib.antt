@@ -7,4 +7,5 @@ pub mod Versions
 pub mod Told
 pub mod Headline
 pub mod Printed
+pub mod Caught
 pub mod TwoCatchers
