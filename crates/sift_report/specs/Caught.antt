@@ -4,18 +4,14 @@ use Rattle.std.specs.Prelude.{◌≡◌, ◌≢◌, ℕ, suc, ◌<◌, List, Boo
 use Rattle.sift_base.specs.Units.{has, holds}
 use Rattle.sift_exec.specs.Conviction.{has_kind, kinds_of}
 use Rattle.sift_exec.specs.declared.catches.Kind.{Kind}
-use Rattle.sift_flight.specs.Flight.{Flight, Strays, IsRound}
 use Rattle.sift_flight.specs.Lies.{Known, IsLie, SaysItsOwn}
 use Rattle.sift_line.specs.declared.bad.Bad.{Bad}
 use Rattle.sift_line.specs.declared.bad.Bad.TheVariants.{Plain, ByKind}
 use Rattle.sift_line.specs.declared.line.ReportLine.{ReportLine}
 use Rattle.sift_line.specs.declared.line.ReportLine.TheVariants.{Unit as unit}
-use Rattle.sift_line.specs.declared.version.Version.{Version}
 use Rattle.sift_mission.specs.Data.{MissionData}
 use Rattle.sift_mission.specs.Flown.{flown}
-use Rattle.sift_mission.specs.PartsFit.{PartsFit}
 use Rattle.sift_mission.specs.Slots.{has_turned}
-use Rattle.sift_report.specs.Sheet.{sheet_of}
 use Rattle.sift_report.specs.Told.{HasMarginTold, IsWorking, config_told, line_at, told_at}
 
 -- ---- what a unit's line tells
@@ -52,8 +48,3 @@ pub record TellsCaught (d : MissionData) (lines : List ReportLine) (us : List �
 abbrev pub ReportCaught : MissionData → List ReportLine → Type 0
 ReportCaught d lines = (f : ℕ) → f < d.frames → HasMarginTold d lines f → (us : List ℕ) → config_told d lines f ≡ Some us →
     (u : ℕ) → has us u ≡ true → has_turned (flown d) u f ≡ false → TellsCaught d lines us f u
-
--- so it is in the sheet of each round flight of a mission whose parts fit, in each version
-abbrev pub CaughtIsPrinted : Type 0
-CaughtIsPrinted = (d : MissionData) (strays : Strays) (fl : Flight) (version : Version) → PartsFit d → IsRound (flown d) strays fl →
-    ReportCaught d (sheet_of (flown d) fl version)

@@ -6,6 +6,6 @@ pub mod OneText
 pub mod Versions
 pub mod Told
 pub mod Headline
-pub mod Printed
 pub mod Caught
+pub mod Printed
 pub mod TwoCatchers

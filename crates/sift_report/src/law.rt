@@ -1,8 +1,7 @@
 //! The laws of the texts: flights that tell the same have one text of each kind, and the headline is printed.
 
-ghost use Rattle.sift_report.specs.Caught.{CaughtIsPrinted};
 ghost use Rattle.sift_report.specs.OneText.{AlikeFlightsHaveOneText};
-ghost use Rattle.sift_report.specs.Printed.{HeadlineIsPrinted, SheetsTellTheirFlights};
+ghost use Rattle.sift_report.specs.Printed.{CaughtIsPrinted, HeadlineIsPrinted, SheetsTellTheirFlights};
 ghost use Rattle.sift_report.specs.TwoCatchers.{FaultIsWithinTheHeadline};
 ghost use Rattle.sift_report.specs.Versions.{SheetsHaveTheirVersion};
 
