@@ -24,6 +24,7 @@ pub mod Homing
 pub mod Ideal
 pub mod Induction
 pub mod Landed
+pub mod LieRows
 pub mod Listed
 pub mod Lying
 pub mod MadeFlight

@@ -13,4 +13,5 @@ pub mod Calm
 pub mod CalmFlight
 pub mod Calms
 pub mod Rows
+pub mod LieRows
 pub mod laws

@@ -7,6 +7,7 @@ ghost use Rattle.sift_flight.specs.Headline.{HeadlineHolds};
 ghost use Rattle.sift_flight.specs.Homing.{FlightsThatComeHomeAreRound};
 ghost use Rattle.sift_flight.specs.Landing.{LawfulCoresHearLawfully, UnitsHearByTheEquations, LandedFramesAreRound};
 ghost use Rattle.sift_flight.specs.Flight.{AtMostOneIsRound};
+ghost use Rattle.sift_flight.specs.LieRows.{LieRows};
 ghost use Rattle.sift_flight.specs.Rows.{RowsHold};
 
 /// What is heard in a lawful core is heard lawfully.
@@ -78,4 +79,9 @@ pub fn calm_missions_fly()
 /// Each definition of flights accepts one row and refuses another.
 pub fn rows_hold()
     ensures { RowsHold }
+{}
+
+/// So does each definition of lies and of what they cost.
+pub fn lie_rows_hold()
+    ensures { LieRows }
 {}

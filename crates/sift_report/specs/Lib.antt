@@ -9,3 +9,4 @@ pub mod Headline
 pub mod Caught
 pub mod Printed
 pub mod TwoCatchers
+pub mod FirstLiar

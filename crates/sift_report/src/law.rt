@@ -1,5 +1,6 @@
 //! The laws of the texts: flights that tell the same have one text of each kind, and the headline is printed.
 
+ghost use Rattle.sift_report.specs.FirstLiar.{FirstLiarIsCaught};
 ghost use Rattle.sift_report.specs.OneText.{AlikeFlightsHaveOneText};
 ghost use Rattle.sift_report.specs.Printed.{CaughtIsPrinted, HeadlineIsPrinted, SheetsTellTheirFlights};
 ghost use Rattle.sift_report.specs.TwoCatchers.{FaultIsWithinTheHeadline};
@@ -69,3 +70,8 @@ pub fn fault_is_within_the_headline()
     plain_tables_are_good();
     calm_missions_fly();
 }
+
+/// The report of the first liar meets the premises of what lies cost, and tells all of it; other lines don't.
+pub fn first_liar_is_caught()
+    ensures { FirstLiarIsCaught }
+{}
