@@ -1,5 +1,5 @@
 -- The clock of a faulty unit that hasn't turned stays with members' clocks, whatever it showed them: it reads theirs as they do.
-use Rattle.std.proofs.Common.{◌≡◌, inl, inr, ℕ, List, Bool, true, false, not, ◌&&◌, nat_eq, Option, None, Some, ℤ, pos, sym, ap, ◌∙◌, subst, arith}
+use Rattle.std.proofs.Common.{◌≡◌, inl, inr, ℕ, List, Bool, true, false, not, nat_eq, Option, None, Some, ℤ, pos, sym, ap, ◌∙◌, subst, arith}
 use Rattle.std.specs.Prelude.{◌+ℤ◌, ◌-ℤ◌, ◌≤ℤ◌}
 use Rattle.std.proofs.lemmas.Bool.{cases_Bool, and_parts}
 use Rattle.std.proofs.lemmas.Bool.Decides.{eqb_tells}
@@ -15,7 +15,7 @@ use Rattle.sift_skew.proofs.lemmas.Keeps.{readers_are_kept_with_margin}
 use Rattle.sift_mission.specs.Data.{FlownMission}
 use Rattle.sift_conduct.specs.Conduct.{clock_catches}
 use Rattle.sift_flight.specs.Flight.{Flight, Strays}
-use Rattle.sift_flight.proofs.FaultyMember.{FaultyMember, apart, by_member, clock_from, clock_to, conduct_in, from_member, hearer_is, hearers, itself, wider}
+use Rattle.sift_flight.proofs.FaultyMember.{FaultyMember, by_member, clock_from, clock_to, conduct_in, from_member, hearer_is, hearers, itself, wider}
 use Rattle.sift_flight.proofs.Timing.{clk, next_is, reads, reads_well, too_far_is}
 use Rattle.sift_flight.proofs.Working.{InFrame, Member, by_config}
 

@@ -1,5 +1,5 @@
 -- The rows of the definitions of lies and of what they cost.
-use Rattle.std.proofs.Common.{◌≡◌, ℕ, ◌<◌, [], ◌∷◌, slice_index, true, false, None, Some, refl, sym, ap, ◌∙◌, subst, arith}
+use Rattle.std.proofs.Common.{◌≡◌, ℕ, ◌<◌, [], ◌∷◌, slice_index, true, false, None, Some, refl, sym, ap, ◌∙◌, arith}
 use Rattle.std.specs.FinSet as set
 use Rattle.std.specs.Ordering.{nat_cmp}
 use Rattle.std.specs.Prelude.{pos}
@@ -14,11 +14,11 @@ use Rattle.sift_exec.specs.declared.catches.Kind.{Kind}
 use Rattle.sift_exec.specs.declared.catches.Kind.TheVariants.{Poll, Relay, Clock as Timed}
 use Rattle.sift_flight.specs.Calm.{four_units, mission_of}
 use Rattle.sift_flight.specs.Caught.{LiesAt, LiesCost, caught_in}
-use Rattle.sift_flight.specs.Calms.{count, gauge}
+use Rattle.sift_flight.specs.Calms.{count}
 use Rattle.sift_flight.specs.Figures.{Works}
 use Rattle.sift_flight.specs.Flight.{Flight}
-use Rattle.sift_flight.specs.Lies.{IsFalseResult, IsFalseRelay, IsFalseClock, SaysItsOwn}
-use Rattle.sift_flight.specs.LieRows.{LieRows, all_with, catching, is_clock, is_relay, is_report, is_result, knows_16, lying, removing, with_lie}
+use Rattle.sift_flight.specs.Lies.{SaysItsOwn}
+use Rattle.sift_flight.specs.LieRows.{LieRows, all_with, catching, is_report, lying, removing, with_lie}
 use Rattle.sift_flight.specs.Rows.{calm_flight}
 
 -- unit 3 lies to each unit that voted 16

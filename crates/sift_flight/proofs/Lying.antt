@@ -20,7 +20,7 @@ use Rattle.sift_mission.specs.laws.Calls.{Call, call_is}
 use Rattle.sift_program.specs.Program.{ProgramTree}
 use Rattle.sift_vote.specs.Majority.{differs, majority_of}
 use Rattle.sift_conduct.specs.Conduct.{caught, polled}
-use Rattle.sift_flight.specs.Lies.{IsFalseResult, IsFalseRelay, IsFalseClock, IsLie}
+use Rattle.sift_flight.specs.Lies.{IsFalseResult, IsFalseRelay, IsFalseClock}
 use Rattle.sift_flight.specs.Caught.{LiesAt, caught_in, known_at, LiarsAreOut}
 use Rattle.sift_flight.specs.Flight.{Flight, config_of, Strays}
 use Rattle.sift_flight.specs.Figures.{Works, config_at}

@@ -1,8 +1,8 @@
 -- Rows of the definitions of lies and of what they cost: for each of them, one that it accepts and one that it refuses.
-use Rattle.std.specs.Prelude.{◌≡◌, ℕ, List, [], ◌∷◌, Bool, true, false, ◌&&◌, nat_eq, if◌then◌else◌, Option, None, Some, pos}
+use Rattle.std.specs.Prelude.{ℕ, [], ◌∷◌, Bool, true, false, ◌&&◌, nat_eq, if◌then◌else◌, Option, None, Some, pos}
 use Rattle.std.specs.FinSet as set
 use Rattle.sift_base.specs.declared.slot.Slot.{Slot}
-use Rattle.sift_base.specs.declared.slot.Slot.TheVariants.{Clock, Sense, RelaySense, Out, Report, RelayReport}
+use Rattle.sift_base.specs.declared.slot.Slot.TheVariants.{Clock, RelaySense, Out, Report}
 use Rattle.sift_exec.specs.Conviction.{nobody}
 use Rattle.sift_mission.specs.Data.{FlownMission}
 use Rattle.sift_conduct.specs.Conduct.{Account}

@@ -1,5 +1,5 @@
 -- The lines of a round flight's report tell each lie, and no catch of who says its own words.
-use Rattle.std.proofs.Common.{◌≡◌, ℕ, suc, ◌<◌, List, Bool, true, false, Some, sym, ap, ◌∙◌, subst, arith}
+use Rattle.std.proofs.Common.{◌≡◌, ℕ, suc, ◌<◌, List, true, false, Some, sym, ap, ◌∙◌, subst, arith}
 use Rattle.sift_base.specs.Units.{has, holds}
 use Rattle.sift_exec.specs.Conviction.{has_kind, kinds_of}
 use Rattle.sift_exec.specs.declared.catches.Catches.{Catches}
@@ -17,10 +17,10 @@ use Rattle.sift_conduct.specs.Conduct.{caught}
 use Rattle.sift_flight.specs.Caught.{LiarsAreOut, LiesAt, LiesCost, OwnWordsCostNothing, known_at}
 use Rattle.sift_flight.specs.Figures.{Works, config_at, HasMarginAt}
 use Rattle.sift_flight.specs.Flight.{Flight, Strays, IsRound}
-use Rattle.sift_flight.specs.Lies.{IsLie, Known, SaysItsOwn}
+use Rattle.sift_flight.specs.Lies.{IsLie, SaysItsOwn}
 use Rattle.sift_report.specs.Caught.{LiesTold, ReportCaught, TellsCaught, known_told, names, tells_catch}
 use Rattle.sift_report.specs.Sheet.{sheet_of}
-use Rattle.sift_report.specs.Told.{IsWorking, config_told, line_at, told_at}
+use Rattle.sift_report.specs.Told.{IsWorking, config_told, line_at}
 use Rattle.sift_report.proofs.Alike.{one_told}
 use Rattle.sift_report.proofs.FrameLines.{caught_is, is_told, line_is, tells_account}
 use Rattle.sift_report.proofs.RoundFlights.{HasLaws}

@@ -15,7 +15,7 @@ use Rattle.sift_exec.specs.laws.Everyone.{way_is_caught}
 use Rattle.sift_line.specs.declared.bad.Bad.TheVariants.{ByKind}
 use Rattle.sift_line.specs.declared.line.ReportLine.{ReportLine}
 use Rattle.sift_report.specs.Caught.{LiesTold, TellsCaught, tells_catch}
-use Rattle.sift_report.specs.FirstLiar.{FirstLiarIsCaught, all_five, four_left, lines, mission, no_unit, only, unit_1_stays, where_first_catches}
+use Rattle.sift_report.specs.FirstLiar.{FirstLiarIsCaught, all_five, four_left, lines, mission, no_unit, unit_1_stays, where_first_catches}
 use Rattle.sift_report.specs.Told.{HasMarginTold, IsSoundTold, IsWorking, line_at, told_at, works_in}
 use Rattle.sift_report.proofs.Alike.{one_told}
 
