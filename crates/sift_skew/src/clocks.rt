@@ -4,7 +4,7 @@ ghost use Rattle.std.specs.Prelude.{◌↔◌, IsTrue, ◌≡◌, [], ◌++◌, 
 ghost use Rattle.sift_skew.specs.Limits.{AreNumbers, IsAdmitted, offset_limit};
 ghost use Rattle.sift_clock.specs.Distance.{IsWithin};
 ghost use Rattle.sift_skew.specs.Figures.{AreInRange, ArePaired, IsHighest, IsLowest, IsSkew, IsSlack};
-ghost use Rattle.sift_skew.specs.Keeping.{CorrectedOffsetsAreClose, DriftsAddTwice, CeilingFitsExactlyWhere, SkewIsKept, SkewIsKeptWithoutFaults, SkewIsKeptWithMargin, WordsAreReadRight, HeardClocksAreReadWell};
+ghost use Rattle.sift_skew.specs.Keeping.{CorrectedOffsetsAreClose, DriftsAddTwice, CeilingFitsExactlyWhere, SkewIsKept, SkewIsKeptWithoutFaults, SkewIsKeptWithMargin, ReadersAreKeptWithMargin, WordsAreReadRight, HeardClocksAreReadWell};
 ghost use Rattle.sift_skew.specs.Leading.{OffsetsChangeLittle, SlackIsPositive, LeadIsAtMostOne, SkewIsUnique, SlackIsUnique};
 
 use arrayvec::ArrayVec;
@@ -124,6 +124,11 @@ pub fn skew_is_kept_without_faults()
 /// In a configuration with margin, `S >= 5 * (E + R)` keeps the skew.
 pub fn skew_is_kept_with_margin()
     ensures { SkewIsKeptWithMargin }
+{}
+
+/// There it keeps the skew of all who read the working clocks well, whether or not their own are read well.
+pub fn readers_are_kept_with_margin()
+    ensures { ReadersAreKeptWithMargin }
 {}
 
 /// Clock words tell offsets apart that are no farther apart than the largest skew.
