@@ -1,6 +1,7 @@
 """What in a mission is accepted and does nothing, or not what it seems to do."""
 import itertools
 from dataclasses import dataclass
+from typing import Optional
 
 from sift.documents import places, texts
 from sift.documents.mission import items_of as item_tables
@@ -16,7 +17,7 @@ class Finding:
     start: int
     end: int
     why: str
-    mend: str = None
+    mend: Optional[str] = None
 
 
 # Configurations.
