@@ -117,14 +117,17 @@ def used() -> Caller:
     return _used
 
 
-def found() -> Caller:
-    """The library where it is built, else the program, else in a clone the launcher, which compiles it for each call."""
-    library = where.library()
+def built() -> Optional[Caller]:
+    """The library where it is built, else the program, or None."""
+    library, program = where.library(), where.program()
     if library:
         return Library(library)
-    program = where.program()
-    if os.access(program, os.X_OK):
-        return Program(program)
-    if where.IN_CLONE:
-        return Program(where.launcher())
-    raise NotAnswered("there is neither the library nor the program of sift: build them, or name one by SIFT_LIBRARY or SIFT_PROGRAM")
+    return Program(program) if os.access(program, os.X_OK) else None
+
+
+def found() -> Caller:
+    """What is built, else in a clone the launcher, which compiles the program for each call."""
+    caller = built() or (Program(where.launcher()) if where.IN_CLONE else None)
+    if not caller:
+        raise NotAnswered("there is neither the library nor the program of sift: build them, or name one by SIFT_LIBRARY or SIFT_PROGRAM")
+    return caller
