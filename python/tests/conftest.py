@@ -1,0 +1,64 @@
+"""What the tests share: they run in the repository's folder, on its missions and cases, and ask what is built."""
+import os
+import subprocess
+import sys
+from pathlib import Path
+
+TOP = Path(__file__).resolve().parents[2]
+sys.path[:0] = [str(TOP / "python"), str(TOP / "python" / "tests")]
+
+import pytest
+
+from sift import callers, where
+
+
+@pytest.fixture(autouse=True)
+def in_the_repository(monkeypatch):
+    """Each test begins in the repository's folder, and asks what is found there."""
+    monkeypatch.chdir(TOP)
+    yield
+    callers.use(None)
+
+
+@pytest.fixture(scope="session")
+def cases(tmp_path_factory):
+    """Of each mission and case by its name: the words, the input, the status and the text that are wanted."""
+    folder = tmp_path_factory.mktemp("cases")
+    subprocess.run([TOP / "tools" / "cases", folder], check=True)
+    found = {}
+    for line in (folder / "statuses").read_text().splitlines():
+        name, status = line.split()
+        files = [folder / "cases" / f"{name}{kind}" for kind in (".args", "", ".stdout")]
+        words, given, text = (path.read_bytes() if path.exists() else b"" for path in files)
+        found[name] = words.decode(errors="surrogateescape").split("\n")[:-1], given, int(status), text
+    return found
+
+
+def asked_here():
+    """What is built and can be asked, by its name."""
+    library, program = where.library(), where.program()
+    found = [pytest.param(callers.Library(library), id="library")] if library else []
+    if os.access(program, os.X_OK):
+        found.append(pytest.param(callers.Program(program), id="program"))
+    return found or [pytest.param(None, id="nothing", marks=pytest.mark.skip(reason="neither the library nor the program is built"))]
+
+
+@pytest.fixture(params=asked_here())
+def caller(request):
+    """The library and the program, one after the other, as what the package asks."""
+    callers.use(request.param)
+    return request.param
+
+
+@pytest.fixture
+def program():
+    """The built program, which the tools ask."""
+    if not os.access(where.program(), os.X_OK):
+        pytest.skip("the program isn't built: tools/build makes it")
+    return where.program()
+
+
+def tool(*words, given=b"", **more):
+    """What a tool of tools/ writes, what it says, and its status."""
+    ended = subprocess.run([str(TOP / "tools" / words[0]), *map(str, words[1:])], input=given, capture_output=True, check=False, **more)
+    return ended.stdout.decode(), ended.stderr.decode(), ended.returncode
