@@ -6,6 +6,7 @@ from importlib import import_module
 from typing import TYPE_CHECKING, Any, List
 
 if TYPE_CHECKING:
+    from sift.campaign import Campaign as Campaign, NotFlown as NotFlown
     from sift.callers import Library as Library, NotAnswered as NotAnswered, Program as Program, use as use
     from sift.commands import buses as buses, byz as byz, check as check, clocks as clocks, gen as gen, ideal as ideal
     from sift.commands import judge as judge, plan as plan, run as run, trial as trial, votes as votes
@@ -14,6 +15,7 @@ if TYPE_CHECKING:
     from sift.report import Report as Report
 
 MODULES = {
+    "campaign": ("Campaign", "NotFlown"),
     "callers": ("Library", "NotAnswered", "Program", "use"),
     "commands": ("buses", "byz", "check", "clocks", "gen", "ideal", "judge", "plan", "run", "trial", "votes"),
     "mission": ("Mission",),
