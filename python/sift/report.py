@@ -172,7 +172,7 @@ class Report:
 
     def plot(self, *names: str, axes: Optional[matplotlib.axes.Axes] = None) -> matplotlib.axes.Axes:
         """Plots words by their names, or the skew of the clocks where none is named, over the frames, with matplotlib."""
-        from matplotlib import pyplot
+        from matplotlib import pyplot, ticker
 
         chosen = axes if axes is not None else pyplot.subplots()[1]
         frames = range(len(self.frames))
@@ -181,5 +181,6 @@ class Report:
         for name in names:
             chosen.step(frames, [float("nan") if word is None else word for word in self.words(name)], where="post", label=name)
         chosen.set_xlabel("frame")
+        chosen.xaxis.set_major_locator(ticker.MaxNLocator(integer=True))
         chosen.legend()
         return chosen
