@@ -5,6 +5,7 @@ import sys
 from pathlib import Path
 
 TOP = Path(__file__).resolve().parents[2]
+os.chdir(TOP)  # tests name missions and cases as one does there
 sys.path[:0] = [str(TOP / "python"), str(TOP / "python" / "tests")]
 
 import pytest
@@ -62,3 +63,29 @@ def tool(*words, given=b"", **more):
     """What a tool of tools/ writes, what it says, and its status."""
     ended = subprocess.run([str(TOP / "tools" / words[0]), *map(str, words[1:])], input=given, capture_output=True, check=False, **more)
     return ended.stdout.decode(), ended.stderr.decode(), ended.returncode
+
+
+def stand_in(folder, script, name="program"):
+    """A script that stands in for the program."""
+    path = Path(folder) / name
+    path.write_text(f"#!/bin/sh\n{script}\n")
+    path.chmod(0o755)
+    return path
+
+
+def sed(script, path, *options):
+    """A file as sed changes it."""
+    return subprocess.run(["sed", *options, script, path], capture_output=True, check=True).stdout
+
+
+def usage_of(name):
+    """The lines of a tool's help that tell how it is called."""
+    lines = tool(name, "--help")[0].split("usage:", 1)[1].splitlines()
+    return "usage:" + "\n".join(lines[: lines.index("")]) + "\n"
+
+
+def without_room(*words):
+    """What a tool says, and its status, where standard output is full."""
+    with open("/dev/full", "wb") as full:
+        ended = subprocess.run([f"tools/{words[0]}", *map(str, words[1:])], stdin=subprocess.DEVNULL, stdout=full, stderr=subprocess.PIPE, check=False)
+    return ended.stderr.decode().splitlines()[-1:], ended.returncode

@@ -8,8 +8,8 @@ from hypothesis import HealthCheck, given, settings, strategies
 import sift
 from sift.mission import Mission, NoSuchName, digits_of
 
-MISSIONS = sorted(Path("missions").glob("*.toml")) or sorted((Path(__file__).resolve().parents[2] / "missions").glob("*.toml"))
-LIAR = Path(__file__).resolve().parents[2] / "missions" / "first_5_liar.toml"
+MISSIONS = sorted(Path("missions").glob("*.toml"))
+LIAR = Path("missions/first_5_liar.toml")
 
 
 @pytest.fixture(params=["tomlkit", "plain"], autouse=True)

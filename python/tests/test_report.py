@@ -9,7 +9,7 @@ import sift
 from conftest import tool
 from sift.reports.reading import NoReport
 
-REPORTS = sorted((Path(__file__).resolve().parents[2] / "missions").glob("*.report"))
+REPORTS = sorted(Path("missions").glob("*.report"))
 LIAR = Path("missions/first_5_liar.toml")
 
 
