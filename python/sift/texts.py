@@ -3,7 +3,10 @@ from __future__ import annotations
 
 import re
 from dataclasses import dataclass
-from typing import Dict, List, NamedTuple, Optional, Tuple
+from typing import TYPE_CHECKING, Dict, List, NamedTuple, Optional, Tuple
+
+if TYPE_CHECKING:
+    import matplotlib.axes
 
 END = re.compile(r"end frames=(\d+) cfg=([0-7]+) margin=(ok|lost)")
 VOTE = re.compile(r"f=(\d+) u=(\d) t=([a-z0-9_]+)\.(\d+) words=(\S+) vote=(\S+)")
@@ -185,3 +188,15 @@ class Skews(Text):
     @property
     def bound(self) -> int:
         return int(found(LAST_OF_CLOCKS, self.lines[-1])[4])
+
+    def plot(self, axes: Optional[matplotlib.axes.Axes] = None) -> matplotlib.axes.Axes:
+        """Plots the skews over the rounds, with their bound, with matplotlib."""
+        from matplotlib import pyplot, ticker
+
+        chosen = axes if axes is not None else pyplot.subplots()[1]
+        chosen.step(range(len(self.skews)), self.skews, where="mid", label="skew")
+        chosen.axhline(self.bound, linestyle="--", color="tab:red", label="bound")
+        chosen.set_xlabel("round")
+        chosen.xaxis.set_major_locator(ticker.MaxNLocator(integer=True))
+        chosen.legend()
+        return chosen

@@ -8,6 +8,7 @@ import pytest
 import sift
 from conftest import tool
 from sift.reports.reading import NoReport
+from sift.texts import Skews
 
 REPORTS = sorted(Path("missions").glob("*.report"))
 LIAR = Path("missions/first_5_liar.toml")
@@ -77,5 +78,7 @@ def test_words_and_skews_are_plotted(tmp_path):
     assert [line.get_label() for line in axes.get_lines()] == ["target.0", "elevator.0"]
     assert list(axes.get_lines()[1].get_ydata()) == [10, 12, -6, 40, 42, 24]
     assert list(report.plot().get_lines()[0].get_ydata()) == [frame.skew for frame in report.frames]
+    run = Skews("round=0 skew=3\nround=1 skew=2\nclocks n=4 m=1 most=3 bound=8\n").plot()
+    assert [list(line.get_ydata()) for line in run.get_lines()] == [[3, 2], [8, 8]]
     axes.figure.savefig(tmp_path / "words.svg")
     assert "elevator.0" in (tmp_path / "words.svg").read_text()
