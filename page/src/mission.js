@@ -1,5 +1,5 @@
 /** What a document states, with the places where it stands. It is read where the program has found that it is a mission. */
-import { readToml } from "./toml.js";
+import { get, readDocument } from "./toml.js";
 
 /** @typedef {import("./toml.js").Value} Value */
 
@@ -33,7 +33,7 @@ import { readToml } from "./toml.js";
  * @property {number} unit
  * @property {number} from
  * @property {Item[]} say
- * @property {{number: number, strays: number} | null} storm
+ * @property {{number: number | bigint, strays: number} | null} storm
  * @property {Value} at
  */
 
@@ -55,18 +55,25 @@ import { readToml } from "./toml.js";
 const FEWEST = 4;
 
 /**
- * @param {Value | undefined} table
+ * @param {Value} table
  * @param {string} name
  * @returns {any} the data of a key, or null
  */
-const dataOf = (table, name) => table?.get(name)?.data ?? null;
+const dataOf = (table, name) => get(table, name)?.data ?? null;
 
 /**
  * @param {Value} table
  * @param {string} name
- * @returns {any[]}
+ * @returns {Value[]} the values of a list, or none
  */
-const listOf = (table, name) => (table.get(name)?.items ?? []).map((item) => item.data);
+const itemsOf = (table, name) => dataOf(table, name) ?? [];
+
+/**
+ * @param {Value} table
+ * @param {string} name
+ * @returns {any[]} their data
+ */
+const listOf = (table, name) => itemsOf(table, name).map((item) => item.data);
 
 /** @param {string} digits */
 const digitsOf = (digits) => [...digits].map(Number);
@@ -91,11 +98,11 @@ function itemOf(at) {
  * @returns {Fault}
  */
 function faultOf(at) {
-  const storm = at.get("storm");
+  const storm = get(at, "storm");
   return {
     unit: dataOf(at, "unit"),
     from: dataOf(at, "from"),
-    say: (at.get("say")?.items ?? []).map(itemOf),
+    say: itemsOf(at, "say").map(itemOf),
     storm: storm ? { number: dataOf(storm, "number"), strays: dataOf(storm, "strays") } : null,
     at,
   };
@@ -124,23 +131,23 @@ function plainTable(size, tasks) {
  * @returns {Mission}
  */
 export function readMission(text) {
-  const root = readToml(text);
-  const tasks = (root.get("task")?.items ?? []).map((at) => ({
+  const { root } = readDocument(text);
+  const tasks = itemsOf(root, "task").map((at) => ({
     name: dataOf(at, "name"),
     start: listOf(at, "start"),
     text: dataOf(at, "text"),
-    linear: at.get("linear") ? listOf(at, "linear") : null,
+    linear: get(at, "linear") ? listOf(at, "linear") : null,
     at,
   }));
   const units = dataOf(root, "units");
   const sizes = [...Array(units - FEWEST + 1).keys()].map((more) => FEWEST + more);
-  const stated = root.get("table")?.items ?? [];
+  const stated = itemsOf(root, "table");
   return {
     version: dataOf(root, "version") ?? 1,
     units,
     frames: dataOf(root, "frames"),
     subframes: dataOf(root, "subframes") ?? 10 + 2 * tasks.length,
-    sensors: (root.get("sensor")?.items ?? []).map((at) => ({ name: dataOf(at, "name"), words: listOf(at, "words"), at })),
+    sensors: itemsOf(root, "sensor").map((at) => ({ name: dataOf(at, "name"), words: listOf(at, "words"), at })),
     tasks,
     tables:
       stated.length > 0
@@ -153,8 +160,8 @@ export function readMission(text) {
           }))
         : sizes.map((size) => plainTable(size, tasks.length)),
     plain: stated.length === 0,
-    faults: (root.get("fault")?.items ?? []).map(faultOf),
-    clocks: root.get("clock") !== undefined,
+    faults: itemsOf(root, "fault").map(faultOf),
+    clocks: get(root, "clock") !== undefined,
     root,
   };
 }

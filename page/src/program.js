@@ -1,5 +1,5 @@
 /** The proved program, called in Web Workers, so that the page stays alive while it flies. */
-import { textOf } from "./data.js";
+import { valueOf } from "./data.js";
 
 /**
  * The exit status of the program, and what it wrote.
@@ -28,7 +28,7 @@ const PATIENCE = 100;
 class Seat {
   /** @param {WebAssembly.Module} module */
   constructor(module) {
-    const address = URL.createObjectURL(new Blob([textOf("worker")], { type: "text/javascript" }));
+    const address = URL.createObjectURL(new Blob([valueOf("worker")], { type: "text/javascript" }));
     this.worker = new Worker(address);
     URL.revokeObjectURL(address);
     this.worker.postMessage(module);
