@@ -1,5 +1,5 @@
 /** Edits of a document's faults, which leave all else of its text, and its comments, as they are. */
-import { readToml } from "./toml.js";
+import { get, readDocument } from "./toml.js";
 
 /** @typedef {import("./toml.js").Value} Value */
 /** @typedef {import("./faults.js").Item} Item */
@@ -84,22 +84,22 @@ function commentStart(text, start) {
 const linesOf = (text, table) => ({ start: commentStart(text, lineStart(text, table.start)), end: lineEnd(text, contentEnd(table)) });
 
 /** @param {Value} root */
-const faultsOf = (root) => root.get("fault")?.items ?? [];
+const faultsOf = (root) => get(root, "fault")?.data ?? [];
 
 /**
  * The fault of a unit, or undefined.
  * @param {Value} root
  * @param {number} unit
  */
-const faultOf = (root, unit) => faultsOf(root).find((fault) => fault.get("unit")?.data === unit);
+const faultOf = (root, unit) => faultsOf(root).find((fault) => get(fault, "unit")?.data === unit);
 
 /**
  * The tables below a fault that headers begin.
  * @param {Value} fault
  */
 function partsOf(fault) {
-  const storm = fault.get("storm");
-  return [...(fault.get("say")?.items ?? []), ...(storm ? [storm] : [])].filter((part) => part.origin === "header");
+  const storm = get(fault, "storm");
+  return [...(get(fault, "say")?.data ?? []), ...(storm ? [storm] : [])].filter((part) => part.origin === "header");
 }
 
 // Small edits.
@@ -156,9 +156,9 @@ function withLines(text, place, lines) {
  * @param {number} key where the key begins
  */
 function withoutValue(text, array, value, key) {
-  const place = array.items.indexOf(value);
-  if (array.items.length === 1) return withoutLines(text, { start: lineStart(text, key), end: lineEnd(text, array.end) });
-  const [before, after] = [array.items[place - 1], array.items[place + 1]];
+  const place = array.data.indexOf(value);
+  if (array.data.length === 1) return withoutLines(text, { start: lineStart(text, key), end: lineEnd(text, array.end) });
+  const [before, after] = [array.data[place - 1], array.data[place + 1]];
   const cut = after ? { start: value.start, end: after.start } : { start: before.end, end: value.end };
   return changed(text, [{ ...cut, text: "" }]);
 }
@@ -183,7 +183,7 @@ function withFirst(text, array, value) {
  * @param {string} text
  */
 export function withoutFaults(text) {
-  const root = readToml(text);
+  const root = readDocument(text).root;
   const entry = root.data.get("fault");
   if (!entry) return text;
   if (entry.value.origin !== "header") {
@@ -199,7 +199,7 @@ export function withoutFaults(text) {
  * @param {number} unit
  */
 export function withoutFault(text, unit) {
-  const root = readToml(text);
+  const root = readDocument(text).root;
   const entry = root.data.get("fault");
   const fault = faultOf(root, unit);
   if (!fault) return text;
@@ -213,9 +213,9 @@ export function withoutFault(text, unit) {
  * @param {StatedFault} fault
  */
 export function withFault(text, fault) {
-  const faults = readToml(text).get("fault");
+  const faults = get(readDocument(text).root, "fault");
   if (!faults || faults.origin === "header") return withLines(text, text.length, faultBlock(fault));
-  const last = faults.items.at(-1);
+  const last = faults.data.at(-1);
   const place = last ? last.end : faults.start + 1;
   return changed(text, [{ start: place, end: place, text: (last ? ", " : "") + inlineFault(fault) }]);
 }
@@ -237,14 +237,14 @@ export const withFaults = (text, faults) => faults.reduce(withFault, text);
  * @param {Item} item
  */
 export function withItem(text, unit, from, item) {
-  const fault = faultOf(readToml(text), unit);
-  const say = fault?.get("say");
+  const fault = faultOf(readDocument(text).root, unit);
+  const say = fault && get(fault, "say");
   if (!fault || !say) return withFault(withoutFault(text, unit), { unit, from, say: [item] });
-  const begun = fault.get("from");
+  const begun = get(fault, "from");
   const put = say.origin === "header" ? withLines(text, lineEnd(text, contentEnd(fault)), itemBlock(item)) : withFirst(text, say, inline(item));
   // The beginning stands before or behind what was put in, so it is looked up anew.
   if (!begun || begun.data <= from) return put;
-  const { start, end } = /** @type {Value} */ (faultOf(readToml(put), unit)?.get("from"));
+  const { start, end } = /** @type {Value} */ (get(/** @type {Value} */ (faultOf(readDocument(put).root, unit)), "from"));
   return changed(put, [{ start, end, text: String(from) }]);
 }
 
@@ -264,10 +264,10 @@ export const withStorm = (text, unit, from, storm) => withFault(withoutFault(tex
  * @param {number} place of the item, from 0
  */
 export function withoutItem(text, unit, place) {
-  const fault = faultOf(readToml(text), unit);
-  const say = fault?.get("say");
-  if (!fault || !say || say.items.length < 2) return withoutFault(text, unit);
-  const item = say.items[place];
+  const fault = faultOf(readDocument(text).root, unit);
+  const say = fault && get(fault, "say");
+  if (!fault || !say || say.data.length < 2) return withoutFault(text, unit);
+  const item = say.data[place];
   return say.origin === "header" ? withoutLines(text, linesOf(text, item)) : withoutValue(text, say, item, 0);
 }
 
@@ -279,9 +279,9 @@ export function withoutItem(text, unit, place) {
 export function statedFaults(text) {
   /** @param {Value} table */
   const plain = (table) => Object.fromEntries([...table.data].map(([key, { value }]) => [key, value.data]));
-  return faultsOf(readToml(text)).map((fault) => {
-    const storm = fault.get("storm");
-    const stated = { unit: fault.get("unit")?.data, from: fault.get("from")?.data };
-    return storm ? { ...stated, storm: plain(storm) } : { ...stated, say: (fault.get("say")?.items ?? []).map(plain) };
+  return faultsOf(readDocument(text).root).map((fault) => {
+    const storm = get(fault, "storm");
+    const stated = { unit: get(fault, "unit")?.data, from: get(fault, "from")?.data };
+    return storm ? { ...stated, storm: plain(storm) } : { ...stated, say: (get(fault, "say")?.data ?? []).map(plain) };
   });
 }

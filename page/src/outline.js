@@ -1,6 +1,6 @@
 /** What a campaign asks of a mission: who is there, what can be said, and by which tables. Only missions that fly have one. */
 import { FEWEST } from "./slots.js";
-import { readToml } from "./toml.js";
+import { get, readDocument } from "./toml.js";
 
 /** @typedef {import("./toml.js").Value} Value */
 
@@ -21,8 +21,9 @@ import { readToml } from "./toml.js";
  * The values of a key that has an array, or none.
  * @param {Value | undefined} table
  * @param {string} name
+ * @returns {Value[]}
  */
-const list = (table, name) => table?.get(name)?.items ?? [];
+const list = (table, name) => (table && get(table, name)?.data) ?? [];
 
 /**
  * The names of the tasks whose words a text reads.
@@ -40,7 +41,7 @@ function readIn(text) {
  */
 function readsOf(tasks, names) {
   return tasks.map((task, own) => {
-    const text = task.get("text");
+    const text = get(task, "text");
     return text ? readIn(text.data).map((name) => names.indexOf(name)) : [own];
   });
 }
@@ -76,18 +77,19 @@ function positionsOf(table, size, tasks) {
  * @returns {Outline}
  */
 export function outlineOf(text) {
-  const root = readToml(text);
-  const units = root.get("units")?.data;
+  const root = readDocument(text).root;
+  const clock = get(root, "clock");
+  const units = get(root, "units")?.data;
   const tasks = list(root, "task");
-  const names = tasks.map((task) => task.get("name")?.data);
+  const names = tasks.map((task) => get(task, "name")?.data);
   const reads = readsOf(tasks, names);
   const sizes = Array.from({ length: units - FEWEST + 1 }, (_, place) => ({ size: FEWEST + place, table: list(root, "table")[place] }));
   return {
     units,
-    frames: root.get("frames")?.data,
-    skew: root.get("clock")?.get("skew")?.data ?? 0,
+    frames: get(root, "frames")?.data,
+    skew: (clock && get(clock, "skew")?.data) ?? 0,
     sensors: list(root, "sensor").map((sensor) => ({
-      name: sensor.get("name")?.data,
+      name: get(sensor, "name")?.data,
       words: list(sensor, "words").map((word) => word.data & 0xffff),
     })),
     tasks: tasks.map((task, place) => ({ name: names[place], words: list(task, "start").length })),

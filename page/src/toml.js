@@ -11,7 +11,7 @@ const DEEPEST = 80;
 const BARE = /[A-Za-z0-9_-]+/y;
 const BLANKS = /[ \t]*/y;
 const WORD = /[A-Za-z0-9_.:+-]+(?: (?=[0-9])[A-Za-z0-9_.:+-]+)?/y;
-const COMMENT = /#[^\x00-\x08\x0a-\x1f\x7f]*/y;
+const COMMENT = /#[^\x00-\x08\x0a-\x1f\x7f]*/y; // eslint-disable-line no-control-regex
 const NEW_LINE = /\r?\n/y;
 const BLANK_LINE_ENDS = /[ \t]*\r?\n[ \t\r\n]*/y;
 /** @type {Record<string, string>} */
@@ -20,78 +20,81 @@ const ESCAPES = { b: "\b", e: "\x1b", f: "\f", n: "\n", r: "\r", t: "\t", '"': '
 const HEX_ESCAPES = { x: /[0-9A-Fa-f]{2}/y, u: /[0-9A-Fa-f]{4}/y, U: /[0-9A-Fa-f]{8}/y };
 const CURLY = "\u201c\u201d\u201e\u2018\u2019";
 
-/** Why a text is no document, where it shows, and what to do. */
+/** Why a text is no document, where it shows, from a place up to an end, and what to do. */
 export class NotADocument extends Error {
   /**
+   * @param {number} place
+   * @param {number} end
    * @param {string} why
    * @param {string} mend
-   * @param {number} start
-   * @param {number} end
    */
-  constructor(why, mend, start, end) {
+  constructor(place, end, why, mend) {
     super(why);
-    this.mend = mend;
-    this.start = start;
+    this.place = place;
     this.end = end;
+    this.why = why;
+    this.mend = mend;
   }
 }
 
 /**
- * How a table came to be: by a value `{ }`, by a header, by a dotted key, or by the header of one below it. An array of tables
- * comes by headers.
- * @typedef {"value" | "header" | "dotted" | "implicit"} Origin
+ * A value, and where it stands in the text: from the place `start` up to `end`. `data` is a number, a bigint where it is a
+ * large one, a boolean or a string, the text of a date, the list of an array's values, or the map of a table's entries. The
+ * place of a table that a header begins is that of the header. `origin` is of a table "value", "header", "dotted" or
+ * "implicit", and of an array of tables "header". `places` has of a string the place of each of its units, and of its end.
+ * @typedef {object} Value
+ * @property {"integer" | "float" | "boolean" | "date" | "string" | "array" | "table"} kind
+ * @property {any} data
+ * @property {number} start
+ * @property {number} end
+ * @property {string} origin
+ * @property {number[] | null} places
  *
  * A key of a table, where it stands, and its value.
  * @typedef {{start: number, end: number, value: Value}} Entry
  *
- * A part of a key, with its place.
+ * A header: where it stands, and the names in it.
+ * @typedef {{start: number, end: number, names: string[], double: boolean}} Header
+ *
+ * A part of a key: its name and where it stands.
  * @typedef {{name: string, start: number, end: number}} Part
  */
 
-/** A value, and where it stands in the text. A table that a header begins stands where that header does. */
-export class Value {
-  /**
-   * @param {"integer" | "float" | "boolean" | "date" | "string" | "array" | "table"} kind
-   * @param {any} data of an integer a number, or a bigint where it is large; of a date its text; of an array its values; of a
-   *   table a Map of its entries
-   * @param {number} start
-   * @param {number} end
-   * @param {Origin} origin
-   */
-  constructor(kind, data, start, end, origin = "value") {
-    this.kind = kind;
-    /** @type {any} */
-    this.data = data;
-    this.start = start;
-    this.end = end;
-    this.origin = origin;
-    /** Of a string: the place of each of its letters, and of its end. @type {number[]} */
-    this.places = [];
-  }
+/**
+ * @param {Value["kind"]} kind
+ * @param {any} data
+ * @param {number} start
+ * @param {number} end
+ * @param {string} origin
+ * @returns {Value}
+ */
+function valueOf(kind, data, start, end, origin = "value") {
+  return { kind, data, start, end, origin, places: null };
+}
 
-  /**
-   * The value of a key, or undefined.
-   * @param {string} name
-   * @returns {Value | undefined}
-   */
-  get(name) {
-    return this.kind === "table" ? this.data.get(name)?.value : undefined;
-  }
+/**
+ * The value of a key of a table, or undefined.
+ * @param {Value} table
+ * @param {string} name
+ * @returns {Value | undefined}
+ */
+export function get(table, name) {
+  return table.data.get(name)?.value;
+}
 
-  /** The values of an array, or none. @returns {Value[]} */
-  get items() {
-    return this.kind === "array" ? this.data : [];
+/**
+ * The value without its places. A table is a map.
+ * @param {Value} value
+ * @returns {any}
+ */
+export function plain(value) {
+  if (value.kind === "array") {
+    return value.data.map(plain);
   }
-
-  /**
-   * Where in the text a byte of a string stands, or its end.
-   * @param {number} byte
-   */
-  placeOfByte(byte) {
-    const bytes = new TextEncoder().encode(this.data).subarray(0, byte);
-    const before = new TextDecoder().decode(bytes).length;
-    return this.places[Math.min(before, this.places.length - 1)];
+  if (value.kind === "table") {
+    return new Map([...value.data].map(([name, entry]) => [name, plain(entry.value)]));
   }
+  return value.data;
 }
 
 /**
@@ -104,11 +107,14 @@ export function lineOf(text, place) {
 }
 
 /**
- * The root table of a document.
+ * The root table of a document's text, and its headers in their order.
  * @param {string} text
- * @returns {Value}
+ * @returns {{root: Value, headers: Header[]}}
  */
-export const readToml = (text) => new Reader(text).document();
+export function readDocument(text) {
+  const reader = new Reader(text);
+  return { root: reader.document(), headers: reader.headers };
+}
 
 /** A text, and the place up to which it is read. */
 class Reader {
@@ -116,6 +122,8 @@ class Reader {
   constructor(text) {
     this.text = text;
     this.at = 0;
+    /** @type {Header[]} */
+    this.headers = [];
   }
 
   // Small steps.
@@ -152,7 +160,7 @@ class Reader {
    * @returns {never}
    */
   refuse(why, mend, place = this.at, end = place + 1) {
-    throw new NotADocument(why, mend, place, end);
+    throw new NotADocument(place, end, why, mend);
   }
 
   /** What stands here, in words. */
@@ -198,7 +206,7 @@ class Reader {
   document() {
     this.at = this.text.startsWith("\ufeff") ? 1 : 0;
     this.blankLines();
-    const root = new Value("table", new Map(), this.at, this.at, "header");
+    const root = valueOf("table", new Map(), this.at, this.at, "header");
     let table = root;
     while (this.next()) {
       if (this.next() === "[") {
@@ -246,6 +254,7 @@ class Reader {
       this.refuse(`\`${close}\` is due here, and ${this.foundHere()}`, `\`${close}\``);
     }
     this.at += close.length;
+    this.headers.push({ start, end: this.at, names: parts.map((part) => part.name), double });
     const table = parts.slice(0, -1).reduce((inner, part) => this.throughHeader(inner, part), root);
     return this.atHeader(table, parts[parts.length - 1], double, start);
   }
@@ -259,7 +268,7 @@ class Reader {
   throughHeader(table, { name, start, end }) {
     const entry = table.data.get(name);
     if (!entry) {
-      const inner = new Value("table", new Map(), start, end, "implicit");
+      const inner = valueOf("table", new Map(), start, end, "implicit");
       table.data.set(name, { start, end, value: inner });
       return inner;
     }
@@ -279,9 +288,9 @@ class Reader {
    */
   atHeader(table, part, double, start) {
     const entry = table.data.get(part.name);
-    const made = new Value("table", new Map(), start, this.at, "header");
+    const made = valueOf("table", new Map(), start, this.at, "header");
     if (!entry) {
-      const holder = double ? new Value("array", [made], start, this.at, "header") : made;
+      const holder = double ? valueOf("array", [made], start, this.at, "header") : made;
       table.data.set(part.name, { start: part.start, end: part.end, value: holder });
       return made;
     }
@@ -368,7 +377,7 @@ class Reader {
   throughDot(table, { name, start, end }) {
     const entry = table.data.get(name);
     if (!entry) {
-      const inner = new Value("table", new Map(), start, end, "dotted");
+      const inner = valueOf("table", new Map(), start, end, "dotted");
       table.data.set(name, { start, end, value: inner });
       return inner;
     }
@@ -425,7 +434,7 @@ class Reader {
     if (scalar.kind === null) {
       return this.refuse(scalar.why, scalar.mend, start, this.at);
     }
-    return new Value(scalar.kind, scalar.data, start, this.at);
+    return valueOf(scalar.kind, scalar.data, start, this.at);
   }
 
   /**
@@ -452,14 +461,14 @@ class Reader {
       }
     }
     this.at += 1;
-    return new Value("array", items, start, this.at);
+    return valueOf("array", items, start, this.at);
   }
 
   /** @param {number} depth */
   inlineTable(depth) {
     const start = this.at;
     this.at += 1;
-    const table = new Value("table", new Map(), start, start);
+    const table = valueOf("table", new Map(), start, start);
     for (this.blankLines(); this.next() !== "}"; this.blankLines()) {
       const { parts, value } = this.keyAndValue(depth);
       this.put(table, parts, value, (name) => `the key \`${name}\` stands twice in its table`);
@@ -522,7 +531,7 @@ class Reader {
         places.push(here + unit);
       }
     }
-    return Object.assign(new Value("string", data, start, this.at), { places });
+    return { ...valueOf("string", data, start, this.at), places };
   }
 
   /**

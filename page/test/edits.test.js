@@ -3,7 +3,7 @@ import assert from "node:assert/strict";
 import { readFileSync, readdirSync } from "node:fs";
 import { test } from "node:test";
 import { statedFaults, withFault, withFaults, withItem, withStorm, withoutFault, withoutFaults, withoutItem } from "../src/edits.js";
-import { readToml } from "../src/toml.js";
+import { get, readDocument } from "../src/toml.js";
 
 const MISSIONS = new URL("../../missions/", import.meta.url);
 const ITEM = /** @type {const} */ ({ slot: "out", index: 0, word: 0, to: "012", value: 7 });
@@ -21,7 +21,7 @@ function plain(value) {
 }
 
 /** @param {string} text */
-const valuesOf = (text) => plain(readToml(text));
+const valuesOf = (text) => plain(readDocument(text).root);
 
 test("a first fault goes behind all that is there", () => {
   assert.equal(withItem(HEAD, 3, 1, ITEM), HEAD + FAULT);

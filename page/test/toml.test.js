@@ -2,7 +2,7 @@
 import assert from "node:assert/strict";
 import { readFileSync, readdirSync } from "node:fs";
 import { test } from "node:test";
-import { NotADocument, readToml } from "../src/toml.js";
+import { NotADocument, get, readDocument } from "../src/toml.js";
 
 const MISTAKES = new URL("../../cases/mistakes/", import.meta.url);
 const MISSIONS = new URL("../../missions/", import.meta.url);
@@ -10,7 +10,7 @@ const MISSIONS = new URL("../../missions/", import.meta.url);
 /** @param {string} text */
 function refused(text) {
   try {
-    readToml(text);
+    readDocument(text).root;
   } catch (fault) {
     assert.ok(fault instanceof NotADocument, String(fault));
     return fault;
@@ -39,7 +39,7 @@ test("what is no document is refused at its place, with its sentence and its men
       continue;
     }
     assert.ok(fault, `${name} is none`);
-    const before = text.slice(0, fault.start).replace(/^\ufeff/, "").split("\n");
+    const before = text.slice(0, fault.place).replace(/^\ufeff/, "").split("\n");
     assert.ok(told[1].endsWith(`.toml:${before.length}:${(before.at(-1) ?? "").length + 1}: ${fault.message}`), `${name}: ${told[1]} isn't ${fault.message}`);
     assert.ok(told.includes(`  mend: ${fault.mend}`), `${name}: ${fault.mend}`);
     tried += 1;
@@ -68,12 +68,12 @@ test("values are read as they are written", () => {
     ["'''it's'''", "it's"],
     ["1979-05-27T07:32:00Z", "1979-05-27T07:32:00Z"],
   ];
-  for (const [written, value] of cases) assert.deepEqual(readToml(`a = ${written}`).get("a")?.data, value, String(written));
+  for (const [written, value] of cases) assert.deepEqual(get(readDocument(`a = ${written}`).root, "a")?.data, value, String(written));
 });
 
 test("a value tells where it stands, and a string where each of its letters does", () => {
   const text = 'units = 4\n[[task]]\ntext = "a\\u0062c"\n';
-  const value = readToml(text).get("task")?.items[0].get("text");
+  const value = get(get(readDocument(text).root, "task")?.data[0], "text");
   assert.equal(text.slice(value?.start, value?.end), '"a\\u0062c"');
   assert.deepEqual(value?.places, [27, 28, 34, 35]);
 });
