@@ -44,7 +44,7 @@ function inlineFault({ unit, from, say, storm }) {
  * @returns {number}
  */
 function contentEnd(table) {
-  const own = [...table.data.values()].map(({ value }) => value).filter((value) => value.origin !== "header");
+  const own = /** @type {Value[]} */ ([...table.data.values()].map(({ value }) => value)).filter((value) => value.origin !== "header");
   return Math.max(table.end, ...own.map((value) => (value.kind === "table" && value.origin !== "value" ? contentEnd(value) : value.end)));
 }
 
@@ -83,7 +83,10 @@ function commentStart(text, start) {
  */
 const linesOf = (text, table) => ({ start: commentStart(text, lineStart(text, table.start)), end: lineEnd(text, contentEnd(table)) });
 
-/** @param {Value} root */
+/**
+ * @param {Value} root
+ * @returns {Value[]}
+ */
 const faultsOf = (root) => get(root, "fault")?.data ?? [];
 
 /**

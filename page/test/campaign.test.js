@@ -4,6 +4,8 @@ import { execFileSync } from "node:child_process";
 import { existsSync, readFileSync } from "node:fs";
 import { test } from "node:test";
 import { fileURLToPath } from "node:url";
+import { Table, changeOf, changesOf } from "../src/cells.js";
+import { Campaign, NoCampaign, momentsOf } from "../src/campaign.js";
 import { withFaults, withoutFaults } from "../src/edits.js";
 import { Schedule, faultName, runsOf } from "../src/faults.js";
 import { readIdeal } from "../src/ideal.js";
@@ -101,4 +103,85 @@ test("a row tells what became of each fault, and of the run", () => {
   const row = new Row("7\tunit 0 clock wrong from 2 + unit 1 report silence from 0\tsaid+said\t2+-\t134+-\t4+-\tok\t0\t-\t-\tyes\tend frames=6 cfg=1234 margin=ok");
   assert.deepEqual(row.told.map(({ fate, removal, lasting }) => [fate, removal, lasting]), [["out", 2, 2], ["never caught", null, Infinity]]);
   assert.equal(row.fate, "never caught");
+});
+
+/** The lines of a campaign's table, as docs/campaigns.md shows them. */
+function linesOf(table) {
+  return table.slots.map((slot) => {
+    const ways = table.kinds.map((kind) => table.units.map((unit) => (table.at(slot, kind, unit)?.mark ?? "").padEnd(4)).join("") + "  ");
+    return `${slot.padEnd(16)}${ways.join("")}`.trimEnd();
+  });
+}
+
+test("the table has the marks that docs/campaigns.md shows", () => {
+  const { schedule } = stored("first_5_liar");
+  const table = new Table(rowsOf(read("cases/sweeps/first_5_liar.tsv")), new Campaign("", "", schedule, CAMPAIGNS.first_5_liar).slots);
+  const page = read("docs/campaigns.md").split("\n");
+  const shown = linesOf(table).filter((line) => !line.includes("report"));
+  assert.equal(shown.length, 5);
+  for (const line of shown) assert.ok(page.includes(line), `docs/campaigns.md hasn't: ${line}`);
+  assert.deepEqual(table.looks, ["believed", "caught by one", "outvoted", "out", "inert"]);
+});
+
+test("two campaigns are compared cell by cell", () => {
+  const [before, after] = ["first_5_liar", "placed_reader"].map((name) => {
+    const { schedule } = stored(name);
+    return new Table(rowsOf(read(`cases/sweeps/${name}.tsv`)), new Campaign("", "", schedule, CAMPAIGNS[name]).slots);
+  });
+  const change = (slot, kind, unit) => changeOf(before.at(slot, kind, unit), after.at(slot, kind, unit));
+  assert.equal(change("sense pitch", "wrong", 0), "better");
+  assert.equal(change("clock", "wrong", 0), "same");
+  assert.equal(change("out elevator.0", "wrong", 0), "new");
+  assert.equal(changeOf(after.at("sense pitch", "wrong", 0), before.at("sense pitch", "wrong", 0)), "worse");
+  assert.equal(change("no slot", "wrong", 0), null);
+  const counts = changesOf(before, after);
+  assert.equal(counts.better + counts.worse + counts.same + counts.gone, before.cells.size);
+  assert.equal(counts.better + counts.worse + counts.same + counts.new, after.cells.size);
+});
+
+test("of a slot with several moments the worst run stands in the cell", () => {
+  const line = (number, begin, caught, out, wrong) =>
+    `${number}\tunit 0 clock wrong from ${begin}\tsaid\t${caught}\t1\t${out}\tok\t${wrong}\t-\t-\tyes\tend frames=6 cfg=1234 margin=ok`;
+  const rows = [line(1, 0, 0, 1, 0), line(2, 1, 1, 4, 2), line(3, 2, 2, 3, 0)].map((each) => new Row(each));
+  const cell = new Table(rows, ["clock"]).at("clock", "wrong", 0);
+  assert.deepEqual([cell?.mark, cell?.row.number, cell?.words], ["3*", 2, "out after 3 frames, 2 wrong words in the run, row 2"]);
+});
+
+test("moments are listed as in 0,10 or 0-49", () => {
+  assert.deepEqual(momentsOf("3, 0-2,1"), [0, 1, 2, 3]);
+  for (const text of ["", "3-", "3-1", "a", "1000", "0;1"]) assert.throws(() => momentsOf(text), NoCampaign, text);
+});
+
+/** A program that stands in for the workers, and keeps count of how many calls are open at once. */
+class Hand {
+  count = 2;
+  open = 0;
+  most = 0;
+  stopped = false;
+
+  async call(words, input) {
+    if (this.stopped) throw new Error("stopped");
+    this.most = Math.max(this.most, ++this.open);
+    await new Promise((resolve) => setTimeout(resolve));
+    this.open -= 1;
+    const text = { ideal: read("cases/sweeps/first_5_liar.ideal"), run: read("missions/first_5_liar.report"), judge: "yes\n" }[words[0]];
+    return { status: input.includes("# fails") ? 7 : 0, text };
+  }
+}
+
+test("a campaign is flown by all workers, and can be stopped and go on", async () => {
+  const hand = new Hand();
+  const chosen = { kinds: ["wrong"], moments: [0] };
+  const campaign = await Campaign.of("first_5_liar", read("missions/first_5_liar.toml"), chosen, hand);
+  assert.equal(campaign.runs.length, 44);
+  await assert.rejects(campaign.fly(hand, () => (hand.stopped = campaign.rows.length >= 10)), /stopped/);
+  assert.ok(campaign.rows.length >= 10 && campaign.rows.length < 20);
+  assert.equal(campaign.isWhole, false);
+  hand.stopped = false;
+  await campaign.fly(hand, () => {});
+  assert.equal(campaign.isWhole, true);
+  assert.deepEqual(campaign.rows.map(({ number }) => number), Array.from({ length: 44 }, (_, place) => place + 1));
+  assert.equal(hand.most, 4);
+  await assert.rejects(Campaign.of("", `${read("missions/first_5_liar.toml")}# fails`, chosen, hand), /the mission is refused/);
+  await assert.rejects(Campaign.of("", read("missions/first_5_liar.toml"), { ...chosen, moments: [6] }, hand), /there is no frame 6: the mission has 6/);
 });
