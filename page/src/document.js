@@ -6,6 +6,7 @@
 /**
  * A flight that was flown, with the document that it is of.
  * @typedef {object} Flown
+ * @property {string} name what it is called
  * @property {string} text the document
  * @property {string} report
  * @property {Flight} flight the report as it was read

@@ -28,7 +28,7 @@ class Editor {
   /** @param {HTMLElement} host */
   constructor(host) {
     this.code = CodeMirror(host, {
-      mode: "toml", lineNumbers: true, gutters: ["refusals", "CodeMirror-linenumbers"], inputStyle: "contenteditable", spellcheck: false,
+      mode: "toml", lineNumbers: true, lineWrapping: true, gutters: ["refusals", "CodeMirror-linenumbers"], inputStyle: "contenteditable", spellcheck: false,
       extraKeys: { Tab: false, "Shift-Tab": false }, screenReaderLabel: "The mission, a document of TOML",
     });
     /** @type {CodeMirror.TextMarker | null} */

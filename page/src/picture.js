@@ -21,11 +21,11 @@ import { catchersOf, kindsOf, lookOf, stretchesOf, when } from "./report.js";
  * @property {number | null} [unit] the unit that is chosen in it
  */
 
-export const ROW = 30;
-const BAR = 22;
+export const ROW = 27;
+const BAR = 21;
 const TOP = 26;
 const BAND = 20;
-const PLOT = 40;
+const PLOT = 34;
 
 /** @type {Record<import("./report.js").Look, string>} */
 export const LOOKS = {
@@ -225,8 +225,8 @@ class Picture {
     if (!words) return [drawn("circle", { class: "catch", cx: x, cy: y, r: Math.max(1, Math.min(4.5, this.view.cell * 0.45)) })];
     const width = 8 * words.length + 6;
     return [
-      drawn("rect", { class: "catch", x: x - width / 2, y: y - 8, width, height: 16, rx: 5 }),
-      drawn("text", { class: "catch-words", x, y: y + 4.5 }, words),
+      drawn("rect", { class: "catch", x: x - width / 2, y: y - 8.5, width, height: 17, rx: 5 }),
+      drawn("text", { class: "catch-words", x, y: y + 4 }, words),
     ];
   }
 
