@@ -60,6 +60,7 @@ export class Store {
    * @param {string} [name] where it is another document, and not a change of this one
    */
   write(text, name = this.state.name) {
-    this.update({ text, name, told: "busy", refusal: null });
+    if (text === this.state.text) this.update({ name });
+    else this.update({ text, name, told: "busy", refusal: null });
   }
 }

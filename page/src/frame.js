@@ -2,7 +2,7 @@
 import { element } from "./elements.js";
 import { wordsOf } from "./mission.js";
 import { LOOKS } from "./picture.js";
-import { catchersOf, kindsOf, lookOf } from "./report.js";
+import { caughtBy, groupedByKinds, lookOf } from "./report.js";
 import { Stopped } from "./program.js";
 import { readIdeal, readVotes } from "./votes.js";
 
@@ -70,8 +70,6 @@ function table(caption, heads, rows) {
 function unitsTable(frame, chosen) {
   const rows = frame.units.map((account, unit) => {
     const look = lookOf(frame, unit);
-    const by = catchersOf(frame, unit);
-    const caught = [...account.catches].map(([whom, letters]) => `${whom}${kindsOf(letters)}`);
     return element(
       "tr",
       { class: unit === chosen && "chosen-row" },
@@ -79,8 +77,8 @@ function unitsTable(frame, chosen) {
       element("td", {}, LOOKS[look]),
       element("td", { class: "mono" }, account.configuration?.join("") ?? "–"),
       element("td", { class: "mono" }, account.clock ?? "–"),
-      element("td", {}, caught.join(", ") || "–"),
-      element("td", {}, by.length > 0 ? by.map((each) => `${each}${kindsOf(frame.units[each].catches.get(unit) ?? "")}`).join(", ") : "–"),
+      element("td", {}, groupedByKinds([...account.catches]) || "–"),
+      element("td", {}, caughtBy(frame, unit) || "–"),
     );
   });
   return table("The units", ["unit", "what it does", "configuration", "clock, in ticks", "catches", "is caught by"], rows);

@@ -1,6 +1,6 @@
 /** The picture of a flight: units by frames, in the marks of docs/pictures.md. */
 import { drawn } from "./elements.js";
-import { catchersOf, kindsOf, lookOf, stretchesOf, when } from "./report.js";
+import { catchersOf, caughtBy, groupedByKinds, lookOf, stretchesOf, when } from "./report.js";
 
 /** @typedef {import("./report.js").Flight} Flight */
 /** @typedef {import("./report.js").Frame} Frame */
@@ -63,11 +63,9 @@ export const greatestOf = (flight, name) => flight.frames.reduce((most, frame) =
  */
 export function tellUnit(flight, number, unit) {
   const frame = flight.frames[number];
-  const by = catchersOf(frame, unit);
-  const words = [`frame ${number}, unit ${unit}: ${LOOKS[lookOf(frame, unit)]}`];
-  if (by.length > 0) words.push(`it is caught by ${by.map((each) => `${each}${kindsOf(frame.units[each].catches.get(unit) ?? "")}`).join(", ")}`);
-  const { catches } = frame.units[unit];
-  if (catches.size > 0) words.push(`it catches ${[...catches].map(([whom, letters]) => `${whom}${kindsOf(letters)}`).join(", ")}`);
+  const by = caughtBy(frame, unit);
+  const catches = groupedByKinds([...frame.units[unit].catches]);
+  const words = [`frame ${number}, unit ${unit}: ${LOOKS[lookOf(frame, unit)]}`, ...(by ? [`it is caught by ${by}`] : []), ...(catches ? [`it catches ${catches}`] : [])];
   return words.join("; ");
 }
 
