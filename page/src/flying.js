@@ -16,13 +16,18 @@ export function keepFlying({ store, program }) {
    * @param {string} name
    */
   async function fly(text, name) {
+    performance.mark("asked");
     const checked = await program.latest("check", ["check"], text);
+    performance.mark("checked");
     if (checked.status !== 0) return store.update({ told: "refused", refusal: checked });
     const flown = await program.latest("run", ["run"], text);
     if (flown.status !== 0) return store.update({ told: "refused", refusal: flown });
+    performance.mark("flown");
     const flight = readReport(flown.text);
+    performance.mark("read");
     const frame = store.state.flown?.name === name ? Math.min(store.state.frame, flight.frames.length - 1) : beginOf(flight);
     store.update({ told: "flown", refusal: null, frame, flown: { name, text, report: flown.text, flight, mission: readMission(text) } });
+    performance.mark("drawn");
   }
 
   store.subscribe((state, changed) => {
