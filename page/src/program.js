@@ -41,7 +41,7 @@ const PATIENCE = 100;
 
 /** A worker, and the call that it is at. */
 class Seat {
-  /** @param {WebAssembly.Module} module */
+  /** @param {WebAssembly.Module | null} module */
   constructor(module) {
     const address = URL.createObjectURL(new Blob([valueOf("worker")], { type: "text/javascript" }));
     this.worker = new Worker(address);
@@ -56,7 +56,7 @@ class Seat {
 /** The program, in so many workers. Calls that find none free wait in their order. */
 export class Program {
   /**
-   * @param {WebAssembly.Module} module
+   * @param {WebAssembly.Module | null} module null where this browser can't run it, and nothing is called
    * @param {number} count of the workers
    */
   constructor(module, count) {
