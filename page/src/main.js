@@ -1,17 +1,23 @@
 /** Starts the page: the program, the store, and each panel in its section. */
-import { bytesOf, valueOf } from "./data.js";
+import { openFirst } from "./address.js";
+import { bytesOf } from "./data.js";
 import { Store } from "./document.js";
 import { byId, element } from "./elements.js";
 import { keepFlying } from "./flying.js";
 import { Program } from "./program.js";
 import { startTabs } from "./tabs.js";
 import * as about from "./about.js";
+import * as campaign from "./campaign-panel.js";
 import * as editor from "./editor.js";
 import * as examples from "./examples.js";
+import * as fault from "./fault-panel.js";
 import * as flight from "./flight.js";
 import * as frame from "./frame.js";
 import * as help from "./help.js";
+import * as judge from "./judge-panel.js";
+import * as corner from "./laboratories.js";
 import * as schedule from "./schedule.js";
+import * as take from "./take-away.js";
 
 /**
  * What each panel is given.
@@ -23,7 +29,7 @@ import * as schedule from "./schedule.js";
  */
 
 /** The sections of the page, and what fills each. */
-const PANELS = { about, examples, mission: editor, flight, frame, schedule, help };
+const PANELS = { about, examples, mission: editor, flight, frame, fault, schedule, campaign, judge, corner, take, help };
 
 /** Whether this browser runs modules with a memory of 64 bits: the smallest of them is tried. */
 function runsSixtyFourBits() {
@@ -48,8 +54,7 @@ async function start() {
   const page = { store: new Store(), program, fleet, show };
   for (const [id, panel] of Object.entries(PANELS)) panel.start(byId(id), page);
   keepFlying(page);
-  const missions = valueOf("missions");
-  page.store.write(missions.first_5_liar, "first_5_liar");
+  await openFirst(page);
 }
 
 start().catch((why) => byId("status").append(element("strong", {}, String(why))));
