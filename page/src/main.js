@@ -1,17 +1,23 @@
 /** Starts the page: the program, the store, and each panel in its section. */
-import { bytesOf, valueOf } from "./data.js";
+import { openFirst } from "./address.js";
+import { bytesOf } from "./data.js";
 import { Store } from "./document.js";
 import { byId } from "./elements.js";
 import { keepFlying } from "./flying.js";
 import { Program } from "./program.js";
 import { startTabs } from "./tabs.js";
 import * as about from "./about.js";
+import * as campaign from "./campaign-panel.js";
 import * as editor from "./editor.js";
 import * as examples from "./examples.js";
+import * as fault from "./fault-panel.js";
 import * as flight from "./flight.js";
 import * as frame from "./frame.js";
 import * as help from "./help.js";
+import * as judge from "./judge-panel.js";
+import * as corner from "./laboratories.js";
 import * as schedule from "./schedule.js";
+import * as take from "./take-away.js";
 
 /**
  * What each panel is given.
@@ -25,7 +31,7 @@ import * as schedule from "./schedule.js";
 /** The sections that need nothing but the document, and what fills each. */
 const READERS = { about, examples, mission: editor, help };
 /** Those that call the program. */
-const CALLERS = { flight, frame, schedule };
+const CALLERS = { flight, frame, fault, schedule, campaign, judge, corner, take };
 
 const UNABLE =
   "This browser can't run the program, whose module has a memory of 64 bits. Chromium, Chrome and Edge can from version 133 on, " +
@@ -59,8 +65,7 @@ async function start() {
     byId("status").classList.add("unable");
     page.show("help");
   }
-  const missions = valueOf("missions");
-  page.store.write(missions.first_5_liar, "first_5_liar");
+  await openFirst(page);
 }
 
 start().catch((why) => {
