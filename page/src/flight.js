@@ -1,7 +1,7 @@
 /** The flight as a drawing that one reads, points at, and goes through by keys. */
 import { byId, drawn, element } from "./elements.js";
 import { eventsOf, headlineOf, slackOf } from "./events.js";
-import { ROW, drawFlight, drawOverview, labels, patterns, rowsOf, tellUnit } from "./picture.js";
+import { ROW, drawFlight, drawOverview, drawShown, labels, patterns, rowsOf, tellUnit } from "./picture.js";
 
 /** @typedef {import("./report.js").Flight} Flight */
 /** @typedef {import("./picture.js").Mark} Mark */
@@ -34,6 +34,7 @@ export class FlightDrawing {
     this.overviewOf = null;
     this.names = drawn("svg", { class: "labels", width: LABELS, "aria-hidden": "true" });
     this.picture = drawn("svg", { class: "picture", role: "presentation" });
+    this.over = drawn("g", { role: "presentation" });
     this.inner = element("div", { class: "inner", role: "presentation" }, this.picture);
     this.grid = element(
       "div",
@@ -79,7 +80,7 @@ export class FlightDrawing {
     if (!this.flight || (frame === this.frame && unit === this.unit)) return;
     this.frame = frame;
     this.unit = unit;
-    this.draw();
+    this.drawOver();
     this.reveal();
   }
 
@@ -116,7 +117,7 @@ export class FlightDrawing {
 
   draw() {
     if (!this.flight || this.grid.clientWidth === 0) return;
-    const { cell, flight, marks, frame, unit } = this;
+    const { cell, flight } = this;
     const { height } = rowsOf(flight.units);
     this.inner.style.width = `${flight.frames.length * cell + 2}px`;
     this.inner.style.height = `${height}px`;
@@ -129,9 +130,17 @@ export class FlightDrawing {
     this.picture.setAttribute("width", String(width));
     this.picture.setAttribute("height", String(height));
     this.picture.style.left = `${this.drawnFrom * cell}px`;
-    this.picture.replaceChildren(patterns(), ...drawFlight(flight, { first: this.drawnFrom, last: this.drawnTo, cell, marks, frame, unit }));
-    this.grid.setAttribute("aria-activedescendant", `cell-${unit ?? 0}-${frame}`);
+    this.picture.replaceChildren(patterns(), ...drawFlight(flight, { first: this.drawnFrom, last: this.drawnTo, cell }), this.over);
+    this.drawOver();
     this.drawOverview();
+  }
+
+  /** What lies over the picture: the opened frame, the chosen unit, and the marks. */
+  drawOver() {
+    if (!this.flight) return;
+    const { cell, flight, marks, frame, unit } = this;
+    this.over.replaceChildren(...drawShown(flight, { first: this.drawnFrom, last: this.drawnTo, cell, marks, frame, unit }));
+    this.grid.setAttribute("aria-activedescendant", `cell-${unit ?? 0}-${frame}`);
   }
 
   /** The whole flight in little, where not all of it is seen. */

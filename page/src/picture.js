@@ -306,7 +306,7 @@ class Picture {
   }
 
   all() {
-    return [...this.axis(), ...this.units(), ...this.catches(), ...this.changes(), ...this.steps("skew"), ...this.steps("slack"), ...this.shown()];
+    return [...this.axis(), ...this.units(), ...this.catches(), ...this.changes(), ...this.steps("skew"), ...this.steps("slack")];
   }
 }
 
@@ -317,6 +317,14 @@ class Picture {
  * @returns {Element[]}
  */
 export const drawFlight = (flight, view) => new Picture(flight, view).all();
+
+/**
+ * The elements that lie over a picture: the frame that is opened, the unit that is chosen in it, and the marks.
+ * @param {Flight} flight
+ * @param {View} view
+ * @returns {Element[]}
+ */
+export const drawShown = (flight, view) => new Picture(flight, view).shown();
 
 /**
  * The whole flight in little: of each unit the stretches in which it looks alike, in a box as wide as the frames and as high as
