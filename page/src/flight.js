@@ -1,7 +1,8 @@
 /** The flight as a drawing that one reads, points at, and goes through by keys. */
-import { byId, drawn, element } from "./elements.js";
+import { byId, drawn, element, prose } from "./elements.js";
 import { eventsOf, headlineOf, slackOf } from "./events.js";
 import { ROW, drawFlight, drawOverview, drawShown, labels, patterns, rowsOf, tellUnit } from "./picture.js";
+import { statedBy } from "./stated.js";
 
 /** @typedef {import("./report.js").Flight} Flight */
 /** @typedef {import("./picture.js").Mark} Mark */
@@ -47,7 +48,7 @@ export class FlightDrawing {
     );
     this.whole = drawn("svg", { class: "overview", preserveAspectRatio: "none", "aria-hidden": "true" });
     this.whole.addEventListener("pointerdown", (event) => this.jump(event));
-    this.told = element("p", { class: "pointed" });
+    this.told = element("p", { class: "pointed", role: "status" });
     host.append(element("div", { class: "drawing" }, this.names, this.grid), this.whole, this.told);
     new ResizeObserver(() => this.draw()).observe(this.grid);
   }
@@ -274,13 +275,14 @@ function key() {
 }
 
 /**
- * What happened, in words, each with its frame behind it.
- * @param {Flight} flight
+ * What happened, in words, each of which opens its frame.
+ * @param {import("./document.js").Flown} flown
  * @param {(frame: number) => void} open
  */
-function eventList(flight, open) {
-  const events = eventsOf(flight);
-  return events.map(({ frame, words }) => element("li", {}, element("button", { type: "button", class: "event", onclick: () => open(frame) }, words)));
+function eventList({ flight, mission }, open) {
+  return eventsOf(flight, statedBy(mission, flight)).map(({ frame, words }) =>
+    element("li", {}, element("button", { type: "button", class: "event", onclick: () => open(Math.min(frame, flight.frames.length - 1)) }, ...prose(words))),
+  );
 }
 
 /**
@@ -309,7 +311,7 @@ export function start(section, { store }) {
       headline.textContent = headlineOf(flight);
       slack.textContent = slackOf(flight);
       drawing.show(flight, [], state.frame, state.unit);
-      events.replaceChildren(...eventList(flight, (frame) => store.update({ frame })));
+      events.replaceChildren(...eventList(state.flown, (frame) => store.update({ frame })));
     } else if (changed.has("frame") || changed.has("unit")) {
       drawing.choose(state.frame, state.unit);
     }

@@ -171,7 +171,7 @@ export function start(section, { store, program }) {
   /** @type {More | null} */
   let more = null;
   const number = element("input", { type: "number", min: 0, "aria-label": "frame", class: "frame-number" });
-  const units = element("div", { "aria-live": "polite" });
+  const units = element("div", {});
   const words = element("div", { id: "words" });
   let resting = 0;
   /** @param {number} to */
