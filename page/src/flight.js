@@ -131,7 +131,7 @@ export class FlightDrawing {
     this.picture.setAttribute("width", String(width));
     this.picture.setAttribute("height", String(height));
     this.picture.style.left = `${this.drawnFrom * cell}px`;
-    this.picture.replaceChildren(patterns(), ...drawFlight(flight, { first: this.drawnFrom, last: this.drawnTo, cell }), this.over);
+    this.picture.replaceChildren(patterns(), ...drawFlight(flight, { first: this.drawnFrom, last: this.drawnTo, cell, partly: flight.frames.length * cell > this.grid.clientWidth }), this.over);
     this.drawOver();
     this.drawOverview();
   }

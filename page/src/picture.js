@@ -16,6 +16,7 @@ import { catchersOf, caughtBy, groupedByKinds, lookOf, stretchesOf, when } from 
  * @property {number} first
  * @property {number} last
  * @property {number} cell
+ * @property {boolean} [partly] whether one sees a part of it at a time, so that words stand again and again
  * @property {Mark[]} [marks]
  * @property {number} [frame] the frame that is opened
  * @property {number | null} [unit] the unit that is chosen in it
@@ -230,7 +231,7 @@ class Picture {
   }
 
   /**
-   * The words of a stretch, at its beginning and again and again, so that some are seen wherever one looks.
+   * The words of a stretch, at its beginning, and where one sees a part at a time again and again.
    * @param {[number, number, unknown]} stretch
    * @param {number} y
    * @param {string} kind
@@ -239,7 +240,7 @@ class Picture {
   words([first, last, value], y, kind, wide) {
     const words = String(value);
     const step = Math.ceil(AGAIN / this.view.cell);
-    const places = Array.from({ length: last - first + 1 }, (_, place) => first + place).filter((number) => number === first || number % step === 0);
+    const places = Array.from({ length: last - first + 1 }, (_, place) => first + place).filter((number) => number === first || (this.view.partly && number % step === 0));
     const room = wide * words.length + 6;
     return places
       .filter((number, place) => ((places[place + 1] ?? last + 1) - number) * this.view.cell >= room)
