@@ -6,6 +6,7 @@
 /**
  * A flight that was flown, with the document that it is of.
  * @typedef {object} Flown
+ * @property {string} name what it is called
  * @property {string} text the document
  * @property {string} report
  * @property {Flight} flight the report as it was read
@@ -59,6 +60,7 @@ export class Store {
    * @param {string} [name] where it is another document, and not a change of this one
    */
   write(text, name = this.state.name) {
-    this.update({ text, name, told: "busy", refusal: null });
+    if (text === this.state.text) this.update({ name });
+    else this.update({ text, name, told: "busy", refusal: null });
   }
 }

@@ -4,7 +4,7 @@ import "codemirror/mode/toml/toml.js";
 import "codemirror/addon/dialog/dialog.js";
 import "codemirror/addon/search/searchcursor.js";
 import "codemirror/addon/search/search.js";
-import { byId, element } from "./elements.js";
+import { byId, element, prose } from "./elements.js";
 import { shownRefusal } from "./refusals.js";
 
 /** @typedef {import("./refusals.js").Shown} Shown */
@@ -28,7 +28,7 @@ class Editor {
   /** @param {HTMLElement} host */
   constructor(host) {
     this.code = CodeMirror(host, {
-      mode: "toml", lineNumbers: true, gutters: ["refusals", "CodeMirror-linenumbers"], inputStyle: "contenteditable", spellcheck: false,
+      mode: "toml", lineNumbers: true, lineWrapping: true, gutters: ["refusals", "CodeMirror-linenumbers"], inputStyle: "contenteditable", spellcheck: false,
       extraKeys: { Tab: false, "Shift-Tab": false }, screenReaderLabel: "The mission, a document of TOML",
     });
     /** @type {CodeMirror.TextMarker | null} */
@@ -55,7 +55,7 @@ class Editor {
     this.clear();
     const from = this.code.posFromIndex(start);
     const to = this.code.posFromIndex(Math.max(end, start + 1));
-    this.mark = this.code.markText(from, to, { className: "refused", attributes: { title: why } });
+    this.mark = this.code.markText(from, to, { className: "refused-here", attributes: { title: why } });
     this.code.setGutterMarker(from.line, "refusals", element("span", { class: "refusal-sign", title: why, role: "img", "aria-label": "refused here" }, "!"));
   }
 
@@ -104,8 +104,8 @@ export function start(_section, { store }) {
     editor.refuse(shown);
     box.replaceChildren(
       element("p", {}, element("strong", {}, line), " ", element("span", { class: "where" }, editor.lineAndColumn(shown.start))),
-      element("p", {}, shown.why),
-      shown.mend && element("p", { class: "mend" }, "What to do: ", shown.mend),
+      element("p", {}, ...prose(shown.why)),
+      shown.mend && element("p", { class: "mend" }, "What to do: ", ...prose(shown.mend)),
       element("button", { type: "button", onclick: () => editor.go(shown.start) }, "Go there"),
     );
   });

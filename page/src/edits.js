@@ -53,14 +53,14 @@ function contentEnd(table) {
  * @param {string} text
  * @param {number} place
  */
-const lineStart = (text, place) => text.lastIndexOf("\n", place - 1) + 1;
+export const lineStart = (text, place) => text.lastIndexOf("\n", place - 1) + 1;
 
 /**
  * Where the line of a place ends, behind its line feed.
  * @param {string} text
  * @param {number} place
  */
-function lineEnd(text, place) {
+export function lineEnd(text, place) {
   const end = text.indexOf("\n", place);
   return end < 0 ? text.length : end + 1;
 }
@@ -70,7 +70,7 @@ function lineEnd(text, place) {
  * @param {string} text
  * @param {number} start of the line
  */
-function commentStart(text, start) {
+export function commentStart(text, start) {
   let place = start;
   while (place > 0 && /^[ \t]*#/.test(text.slice(lineStart(text, place - 1), place))) place = lineStart(text, place - 1);
   return place === 0 ? start : place;
@@ -81,7 +81,7 @@ function commentStart(text, start) {
  * @param {string} text
  * @param {Value} table
  */
-const linesOf = (text, table) => ({ start: commentStart(text, lineStart(text, table.start)), end: lineEnd(text, contentEnd(table)) });
+export const linesOf = (text, table) => ({ start: commentStart(text, lineStart(text, table.start)), end: lineEnd(text, contentEnd(table)) });
 
 /**
  * @param {Value} root
@@ -112,7 +112,7 @@ function partsOf(fault) {
  * @param {string} text
  * @param {Change[]} changes
  */
-function changed(text, changes) {
+export function changed(text, changes) {
   return [...changes]
     .sort((one, other) => other.start - one.start)
     .reduce((whole, { start, end, text: put }) => whole.slice(0, start) + put + whole.slice(end), text);
@@ -123,7 +123,7 @@ function changed(text, changes) {
  * @param {string} text
  * @param {{start: number, end: number}} lines
  */
-function withoutLines(text, { start, end }) {
+export function withoutLines(text, { start, end }) {
   const before = text.slice(0, start);
   const after = text.slice(end);
   if (after.trim() === "") return before.replace(/(\r?\n)(?:[ \t]*\r?\n)+$/, "$1");
@@ -136,7 +136,7 @@ function withoutLines(text, { start, end }) {
  * @param {string} text
  * @param {{start: number, end: number}[]} stretches
  */
-const withoutAll = (text, stretches) => [...stretches].sort((one, other) => other.start - one.start).reduce(withoutLines, text);
+export const withoutAll = (text, stretches) => [...stretches].sort((one, other) => other.start - one.start).reduce(withoutLines, text);
 
 /**
  * The text with lines put in at the beginning of a line, with the line ends that the text has.

@@ -60,3 +60,10 @@ export function byId(id) {
   if (!found) throw new Error(`the page has no element ${id}`);
   return found;
 }
+
+/**
+ * A sentence in which what stands between backquotes is code.
+ * @param {string} words
+ * @returns {Child[]}
+ */
+export const prose = (words) => words.split("`").map((part, place) => (place % 2 === 1 ? element("code", {}, part) : part));

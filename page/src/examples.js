@@ -33,7 +33,6 @@ export function start(section, { store }) {
     element("optgroup", { label: "all others" }, ...rest.map(option)),
   );
   select.addEventListener("change", () => {
-    if (missions[select.value] !== undefined) store.update({ frame: 0, unit: null });
     if (missions[select.value] !== undefined) store.write(missions[select.value], select.value);
   });
 

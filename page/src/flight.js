@@ -1,5 +1,5 @@
 /** The flight as a drawing that one reads, points at, and goes through by keys. */
-import { drawn, element } from "./elements.js";
+import { byId, drawn, element } from "./elements.js";
 import { eventsOf, headlineOf, slackOf } from "./events.js";
 import { ROW, drawFlight, drawOverview, labels, patterns, rowsOf, tellUnit } from "./picture.js";
 
@@ -282,7 +282,7 @@ export function start(section, { store }) {
   const headline = element("h2", { class: "headline" }, "No flight yet");
   const slack = element("p", { class: "more" });
   const host = element("div", { class: "host" });
-  const events = element("ol", { class: "events", "aria-label": "What happened" });
+  const events = element("ol", { class: "events" });
   const drawing = new FlightDrawing(host, (frame, unit) => store.update({ frame, unit }));
   const tools = element(
     "div",
@@ -290,13 +290,8 @@ export function start(section, { store }) {
     element("button", { type: "button", "aria-label": "narrower frames", onclick: () => drawing.scale(1 / 1.5) }, "−"),
     element("button", { type: "button", "aria-label": "wider frames", onclick: () => drawing.scale(1.5) }, "+"),
   );
-  section.append(
-    element("div", { class: "head" }, headline, tools),
-    slack,
-    host,
-    key(),
-    element("details", { open: true }, element("summary", {}, "What happened"), events),
-  );
+  section.append(element("div", { class: "head" }, headline, tools), slack, host, key());
+  byId("happened").append(element("h2", {}, "What happened"), events);
 
   store.subscribe((state, changed) => {
     section.classList.toggle("stale", state.told !== "flown");

@@ -3,23 +3,37 @@ import { readMission } from "./mission.js";
 import { readReport } from "./report.js";
 import { Stopped } from "./program.js";
 
+/**
+ * The first frame in which somebody is faulty, or 0: what a flight is opened at.
+ * @param {import("./report.js").Flight} flight
+ */
+const beginOf = (flight) => Math.max(0, flight.frames.findIndex((frame) => frame.units.some((unit) => unit.state === "faulty")));
+
 /** @param {import("./main.js").Page} page */
 export function keepFlying({ store, program }) {
-  /** @param {string} text */
-  async function fly(text) {
+  /**
+   * @param {string} text
+   * @param {string} name
+   */
+  async function fly(text, name) {
+    performance.mark("asked");
     const checked = await program.latest("check", ["check"], text);
+    performance.mark("checked");
     if (checked.status !== 0) return store.update({ told: "refused", refusal: checked });
     const flown = await program.latest("run", ["run"], text);
     if (flown.status !== 0) return store.update({ told: "refused", refusal: flown });
+    performance.mark("flown");
     const flight = readReport(flown.text);
-    const frame = Math.min(store.state.frame, flight.frames.length - 1);
-    store.update({ told: "flown", refusal: null, frame, flown: { text, report: flown.text, flight, mission: readMission(text) } });
+    performance.mark("read");
+    const frame = store.state.flown?.name === name ? Math.min(store.state.frame, flight.frames.length - 1) : beginOf(flight);
+    store.update({ told: "flown", refusal: null, frame, flown: { name, text, report: flown.text, flight, mission: readMission(text) } });
+    performance.mark("drawn");
   }
 
   store.subscribe((state, changed) => {
     if (!changed.has("text")) return;
     program.stop("run");
-    fly(state.text).catch((why) => {
+    fly(state.text, state.name).catch((why) => {
       if (why instanceof Stopped) return;
       store.update({ told: "refused", refusal: { status: -1, text: `the program stopped: ${why.message}\n` } });
     });

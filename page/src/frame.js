@@ -1,10 +1,11 @@
 /** A frame that is opened: what each unit tells of it, its words beside those of the ideal machine, and who said what. */
 import { element } from "./elements.js";
+import { readIdeal } from "./ideal.js";
 import { wordsOf } from "./mission.js";
 import { LOOKS } from "./picture.js";
-import { catchersOf, kindsOf, lookOf } from "./report.js";
+import { caughtBy, groupedByKinds, lookOf } from "./report.js";
 import { Stopped } from "./program.js";
-import { readIdeal, readVotes } from "./votes.js";
+import { Votes } from "./votes.js";
 
 /** @typedef {import("./document.js").State} State */
 /** @typedef {import("./document.js").Flown} Flown */
@@ -16,7 +17,7 @@ import { readIdeal, readVotes } from "./votes.js";
  * What the program tells of a flight beside the report.
  * @typedef {object} More
  * @property {Flown} of
- * @property {FrameVotes[]} votes
+ * @property {Votes} votes
  * @property {string[][]} ideal
  */
 
@@ -28,6 +29,9 @@ function signed(word) {
   const number = parseInt(word, 16);
   return number > 32767 ? number - 65536 : number;
 }
+
+/** @param {number} number */
+const hexOf = (number) => number.toString(16).padStart(4, "0");
 
 /** @param {string} word */
 export const shownWord = (word) => (decimal ? String(signed(word)) : word);
@@ -70,8 +74,6 @@ function table(caption, heads, rows) {
 function unitsTable(frame, chosen) {
   const rows = frame.units.map((account, unit) => {
     const look = lookOf(frame, unit);
-    const by = catchersOf(frame, unit);
-    const caught = [...account.catches].map(([whom, letters]) => `${whom}${kindsOf(letters)}`);
     return element(
       "tr",
       { class: unit === chosen && "chosen-row" },
@@ -79,8 +81,8 @@ function unitsTable(frame, chosen) {
       element("td", {}, LOOKS[look]),
       element("td", { class: "mono" }, account.configuration?.join("") ?? "–"),
       element("td", { class: "mono" }, account.clock ?? "–"),
-      element("td", {}, caught.join(", ") || "–"),
-      element("td", {}, by.length > 0 ? by.map((each) => `${each}${kindsOf(frame.units[each].catches.get(unit) ?? "")}`).join(", ") : "–"),
+      element("td", {}, groupedByKinds([...account.catches]) || "–"),
+      element("td", {}, caughtBy(frame, unit) || "–"),
     );
   });
   return table("The units", ["unit", "what it does", "configuration", "clock, in ticks", "catches", "is caught by"], rows);
@@ -201,9 +203,9 @@ export function start(section, { store, program }) {
    * @param {Flown} flown
    */
   async function ask(flown) {
-    const [votes, ideal] = await Promise.all([program.latest("votes", ["votes"], flown.text), program.latest("ideal", ["ideal"], flown.text)]);
+    const [votes, ideal] = await Promise.all([program.latestRaw("votes", ["votes"], flown.text), program.latest("ideal", ["ideal"], flown.text)]);
     if (store.state.flown !== flown) return;
-    more = { of: flown, votes: readVotes(votes.text), ideal: readIdeal(ideal.text) };
+    more = { of: flown, votes: new Votes(votes.bytes), ideal: readIdeal(ideal.text).map((words) => words.map(hexOf)) };
     draw(store.state);
   }
 
@@ -216,7 +218,7 @@ export function start(section, { store, program }) {
     const known = more?.of === flown ? more : null;
     const { mission } = flown;
     const told = frame.units.some((account) => account.outputs);
-    const votes = known?.votes[place];
+    const votes = known?.votes.of(place);
     body.replaceChildren(
       element("p", { class: "more" }, tellFrame(frame)),
       unitsTable(frame, unit),
@@ -224,7 +226,7 @@ export function start(section, { store, program }) {
         ? [wordsTable("Agreed inputs", "sensor", mission.sensors.map((sensor) => sensor.name), frame, "inputs", null)]
         : []),
       ...(told ? [wordsTable("Outputs", "word", wordsOf(mission), frame, "outputs", known?.ideal[place] ?? null)] : []),
-      votes ? votesTable(votes) : element("p", { class: "more" }, known ? "no unit voted" : "…"),
+      votes && votes.size > 0 ? votesTable(votes) : element("p", { class: "more" }, known ? "no unit voted" : "…"),
     );
   }
 

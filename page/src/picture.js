@@ -1,6 +1,6 @@
 /** The picture of a flight: units by frames, in the marks of docs/pictures.md. */
 import { drawn } from "./elements.js";
-import { catchersOf, kindsOf, lookOf, stretchesOf, when } from "./report.js";
+import { catchersOf, caughtBy, groupedByKinds, lookOf, stretchesOf, when } from "./report.js";
 
 /** @typedef {import("./report.js").Flight} Flight */
 /** @typedef {import("./report.js").Frame} Frame */
@@ -21,11 +21,11 @@ import { catchersOf, kindsOf, lookOf, stretchesOf, when } from "./report.js";
  * @property {number | null} [unit] the unit that is chosen in it
  */
 
-export const ROW = 30;
-const BAR = 22;
+export const ROW = 27;
+const BAR = 21;
 const TOP = 26;
 const BAND = 20;
-const PLOT = 40;
+const PLOT = 34;
 
 /** @type {Record<import("./report.js").Look, string>} */
 export const LOOKS = {
@@ -63,11 +63,9 @@ export const greatestOf = (flight, name) => flight.frames.reduce((most, frame) =
  */
 export function tellUnit(flight, number, unit) {
   const frame = flight.frames[number];
-  const by = catchersOf(frame, unit);
-  const words = [`frame ${number}, unit ${unit}: ${LOOKS[lookOf(frame, unit)]}`];
-  if (by.length > 0) words.push(`it is caught by ${by.map((each) => `${each}${kindsOf(frame.units[each].catches.get(unit) ?? "")}`).join(", ")}`);
-  const { catches } = frame.units[unit];
-  if (catches.size > 0) words.push(`it catches ${[...catches].map(([whom, letters]) => `${whom}${kindsOf(letters)}`).join(", ")}`);
+  const by = caughtBy(frame, unit);
+  const catches = groupedByKinds([...frame.units[unit].catches]);
+  const words = [`frame ${number}, unit ${unit}: ${LOOKS[lookOf(frame, unit)]}`, ...(by ? [`it is caught by ${by}`] : []), ...(catches ? [`it catches ${catches}`] : [])];
   return words.join("; ");
 }
 
@@ -225,8 +223,8 @@ class Picture {
     if (!words) return [drawn("circle", { class: "catch", cx: x, cy: y, r: Math.max(1, Math.min(4.5, this.view.cell * 0.45)) })];
     const width = 8 * words.length + 6;
     return [
-      drawn("rect", { class: "catch", x: x - width / 2, y: y - 8, width, height: 16, rx: 5 }),
-      drawn("text", { class: "catch-words", x, y: y + 4.5 }, words),
+      drawn("rect", { class: "catch", x: x - width / 2, y: y - 8.5, width, height: 17, rx: 5 }),
+      drawn("text", { class: "catch-words", x, y: y + 4 }, words),
     ];
   }
 

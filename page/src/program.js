@@ -8,6 +8,13 @@ import { valueOf } from "./data.js";
  * @property {string} text
  */
 
+/**
+ * The same with the bytes of what it wrote, for texts that are read in part.
+ * @typedef {object} RawReply
+ * @property {number} status
+ * @property {Uint8Array} bytes
+ */
+
 /** Why a call has no reply: it was stopped, or a later one of its topic took its place. */
 export class Stopped extends Error {}
 
@@ -16,10 +23,18 @@ export class Stopped extends Error {}
  * @typedef {object} Call
  * @property {string[]} words
  * @property {string} input
- * @property {(reply: Reply) => void} resolve
+ * @property {(reply: RawReply) => void} resolve
  * @property {(why: Error) => void} reject
  * @property {Seat | null} seat where it runs
  */
+
+const decoder = new TextDecoder();
+
+/**
+ * @param {RawReply} raw
+ * @returns {Reply}
+ */
+const read = ({ status, bytes }) => ({ status, text: decoder.decode(bytes) });
 
 /** How long a call that nobody wants any more may go on before its worker is ended, in milliseconds. */
 const PATIENCE = 100;
@@ -70,17 +85,28 @@ export class Program {
    * @returns {Promise<Reply>} which is rejected with Stopped, or with what the worker trapped on
    */
   call(words, input = "") {
-    return this.begin(words, input).promise;
+    return this.begin(words, input).promise.then(read);
   }
 
   /**
-   * Calls the program where only the newest answer of a topic is wanted: an earlier call of it is rejected with Stopped.
+   * The same, where only the newest answer of a topic is wanted: an earlier call of it is rejected with Stopped.
    * @param {string} topic
    * @param {string[]} words
    * @param {string} [input]
    * @returns {Promise<Reply>}
    */
   latest(topic, words, input = "") {
+    return this.latestRaw(topic, words, input).then(read);
+  }
+
+  /**
+   * The same, with the bytes of the text.
+   * @param {string} topic
+   * @param {string[]} words
+   * @param {string} [input]
+   * @returns {Promise<RawReply>}
+   */
+  latestRaw(topic, words, input = "") {
     this.stop(topic);
     const { call, promise } = this.begin(words, input);
     this.topics.set(topic, call);
@@ -113,7 +139,7 @@ export class Program {
   begin(words, input) {
     /** @type {Call} */
     const call = { words, input, resolve: () => {}, reject: () => {}, seat: null };
-    /** @type {Promise<Reply>} */
+    /** @type {Promise<RawReply>} */
     const promise = new Promise((resolve, reject) => Object.assign(call, { resolve, reject }));
     this.waiting.push(call);
     this.deal();
@@ -143,7 +169,7 @@ export class Program {
 
   /**
    * @param {Seat} seat
-   * @param {Reply & {trap?: string}} told
+   * @param {RawReply & {trap?: string}} told
    */
   answered(seat, told) {
     const { call } = seat;

@@ -169,6 +169,25 @@ export function catchersOf(frame, unit) {
 }
 
 /**
+ * Units in words, each with the letters of its kinds, those with the same ones together: "0 2 (poll), 3 (poll, clock)".
+ * @param {[number, string][]} told
+ */
+export function groupedByKinds(told) {
+  /** @type {Map<string, number[]>} */
+  const groups = new Map();
+  for (const [unit, letters] of told) groups.set(letters, [...(groups.get(letters) ?? []), unit]);
+  return [...groups].map(([letters, units]) => `${units.join(" ")}${kindsOf(letters)}`).join(", ");
+}
+
+/**
+ * Who caught a unit in a frame, in words; nothing where nobody did.
+ * @param {Frame} frame
+ * @param {number} unit
+ */
+export const caughtBy = (frame, unit) =>
+  groupedByKinds(catchersOf(frame, unit).map((by) => [by, frame.units[by].catches.get(unit) ?? ""]));
+
+/**
  * What a unit looks like in a frame.
  * @param {Frame} frame
  * @param {number} unit

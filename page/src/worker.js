@@ -1,8 +1,8 @@
 /**
  * The code of a worker: one instance of the program's module, and one call after the other.
  *
- * The first message is the module; each further one has words and an input, and is answered with a status and a text, or with
- * the reason why the instance trapped. Then the instance is spent, and the next call has a new one.
+ * The first message is the module; each further one has words and an input, and is answered with a status and the bytes of a
+ * text, or with the reason why the instance trapped. Then the instance is spent, and the next call has a new one.
  */
 
 /**
@@ -18,7 +18,7 @@ const NO_MEMORY = 10;
 const NO_ROOM = 100;
 const ROOM = 1 << 20;
 
-const host = /** @type {{onmessage: ((event: MessageEvent) => void) | null, postMessage: (message: unknown) => void}} */ (
+const host = /** @type {{onmessage: ((event: MessageEvent) => void) | null, postMessage: (message: unknown, moved?: Transferable[]) => void}} */ (
   /** @type {unknown} */ (self)
 );
 /** @type {WebAssembly.Module | undefined} */
@@ -32,14 +32,14 @@ let sift;
  * @param {Uint8Array} words
  * @param {Uint8Array} input
  * @param {number} size of the room for the text
- * @returns {{status: number, text: string}}
+ * @returns {{status: number, bytes: Uint8Array}}
  */
 function call(it, words, input, size) {
   const places = [words.length, input.length, size, 8].map((length) => it.take(BigInt(Math.max(length, 1))));
   const [wordsAt, inputAt, roomAt, countAt] = places;
   let status = NO_MEMORY;
   let count = 0;
-  let text = "";
+  let bytes = new Uint8Array();
   if (!places.includes(0n)) {
     new Uint8Array(it.memory.buffer, Number(wordsAt), words.length).set(words);
     new Uint8Array(it.memory.buffer, Number(inputAt), input.length).set(input);
@@ -47,10 +47,10 @@ function call(it, words, input, size) {
     // The memory may have grown, and its buffer is another one then.
     status = told & 255;
     count = Number(new DataView(it.memory.buffer).getBigUint64(Number(countAt), true));
-    if (status !== NO_ROOM) text = new TextDecoder().decode(new Uint8Array(it.memory.buffer, Number(roomAt), count));
+    if (status !== NO_ROOM) bytes = new Uint8Array(it.memory.buffer, Number(roomAt), count).slice();
   }
   for (const place of places) if (place) it.give_back(place);
-  return status === NO_ROOM ? call(it, words, input, count) : { status, text };
+  return status === NO_ROOM ? call(it, words, input, count) : { status, bytes };
 }
 
 host.onmessage = (/** @type {MessageEvent} */ { data }) => {
@@ -61,7 +61,8 @@ host.onmessage = (/** @type {MessageEvent} */ { data }) => {
   const encoder = new TextEncoder();
   try {
     sift ??= /** @type {Sift} */ (/** @type {unknown} */ (new WebAssembly.Instance(/** @type {WebAssembly.Module} */ (module)).exports));
-    host.postMessage(call(sift, encoder.encode(data.words.join("\n")), encoder.encode(data.input), ROOM));
+    const reply = call(sift, encoder.encode(data.words.join("\n")), encoder.encode(data.input), ROOM);
+    host.postMessage(reply, [reply.bytes.buffer]);
   } catch (trap) {
     sift = undefined;
     host.postMessage({ trap: String(trap) });
