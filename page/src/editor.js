@@ -51,10 +51,11 @@ class Editor {
   }
 
   /** @param {Shown} shown */
-  refuse({ start, end, why }) {
+  refuse({ place, why }) {
     this.clear();
-    const from = this.code.posFromIndex(start);
-    const to = this.code.posFromIndex(Math.max(end, start + 1));
+    if (!place) return;
+    const from = this.code.posFromIndex(place.start);
+    const to = this.code.posFromIndex(Math.max(place.end, place.start + 1));
     this.mark = this.code.markText(from, to, { className: "refused-here", attributes: { title: why } });
     this.code.setGutterMarker(from.line, "refusals", element("span", { class: "refusal-sign", title: why, role: "img", "aria-label": "refused here" }, "!"));
   }
@@ -71,6 +72,20 @@ class Editor {
     const { line, ch } = this.code.posFromIndex(start);
     return `line ${line + 1}, column ${ch + 1}`;
   }
+}
+
+/**
+ * What is said of a refusal below the editor.
+ * @param {Editor} editor
+ * @param {Shown} shown
+ */
+function told(editor, { line, place, why, mend }) {
+  return [
+    element("p", {}, element("strong", {}, line), place && element("span", { class: "where" }, editor.lineAndColumn(place.start))),
+    ...(why ? [element("p", {}, ...prose(why))] : []),
+    ...(mend ? [element("p", {}, "What to do: ", ...prose(mend))] : []),
+    ...(place ? [element("button", { type: "button", onclick: () => editor.go(place.start) }, "Go there")] : []),
+  ];
 }
 
 /**
@@ -99,14 +114,8 @@ export function start(_section, { store }) {
       if (state.told === "flown") box.replaceChildren();
       return;
     }
-    const line = state.refusal.text.trimEnd();
-    const shown = shownRefusal(state.text, line);
+    const shown = shownRefusal(state.text, state.refusal);
     editor.refuse(shown);
-    box.replaceChildren(
-      element("p", {}, element("strong", {}, line), " ", element("span", { class: "where" }, editor.lineAndColumn(shown.start))),
-      element("p", {}, ...prose(shown.why)),
-      shown.mend && element("p", { class: "mend" }, "What to do: ", ...prose(shown.mend)),
-      element("button", { type: "button", onclick: () => editor.go(shown.start) }, "Go there"),
-    );
+    box.replaceChildren(...told(editor, shown));
   });
 }

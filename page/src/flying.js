@@ -1,4 +1,5 @@
-/** Checks the document as it changes, and flies it where it is a mission. */
+/** Checks the document as it changes, flies it where it is a mission, and says what it is at. */
+import { byId } from "./elements.js";
 import { readMission } from "./mission.js";
 import { readReport } from "./report.js";
 import { Stopped } from "./program.js";
@@ -29,6 +30,13 @@ export function keepFlying({ store, program }) {
     store.update({ told: "flown", refusal: null, frame, flown: { name, text, report: flown.text, flight, mission: readMission(text) } });
     performance.mark("drawn");
   }
+
+  const status = byId("status");
+  store.subscribe((state, changed) => {
+    if (!changed.has("told")) return;
+    status.classList.toggle("refused", state.told === "refused");
+    status.textContent = { busy: "flying …", refused: "refused", flown: "flown" }[state.told];
+  });
 
   store.subscribe((state, changed) => {
     if (!changed.has("text")) return;

@@ -2,7 +2,7 @@
 import { openFirst } from "./address.js";
 import { bytesOf } from "./data.js";
 import { Store } from "./document.js";
-import { byId, element } from "./elements.js";
+import { byId } from "./elements.js";
 import { keepFlying } from "./flying.js";
 import { Program } from "./program.js";
 import { startTabs } from "./tabs.js";
@@ -28,33 +28,47 @@ import * as take from "./take-away.js";
  * @property {(id: string) => void} show opens the view with an id
  */
 
-/** The sections of the page, and what fills each. */
-const PANELS = { about, examples, mission: editor, flight, frame, fault, schedule, campaign, judge, corner, take, help };
+/** The sections that need nothing but the document, and what fills each. */
+const READERS = { about, examples, mission: editor, help };
+/** Those that call the program. */
+const CALLERS = { flight, frame, fault, schedule, campaign, judge, corner, take };
+
+const UNABLE =
+  "This browser can't run the program, whose module has a memory of 64 bits. Chromium, Chrome and Edge can from version 133 on, " +
+  "Firefox from 134 on. Here missions and the pages of help can be read, and nothing flies.";
 
 /** Whether this browser runs modules with a memory of 64 bits: the smallest of them is tried. */
-function runsSixtyFourBits() {
-  return WebAssembly.validate(new Uint8Array([0, 97, 115, 109, 1, 0, 0, 0, 5, 3, 1, 4, 1]));
-}
+const runsSixtyFourBits = () => WebAssembly.validate(new Uint8Array([0, 97, 115, 109, 1, 0, 0, 0, 5, 3, 1, 4, 1]));
 
-function tellUnable() {
-  byId("status").textContent =
-    "This browser can't run the program: its module has a memory of 64 bits, which Chromium and its kin from version 133 on, and Firefox from 134 on, run. The texts can be read and changed here, and nothing flies.";
-  byId("status").classList.add("unable");
+/**
+ * @param {Record<string, {start: (section: HTMLElement, page: Page) => void}>} panels
+ * @param {Page} page
+ */
+function startAll(panels, page) {
+  for (const [id, panel] of Object.entries(panels)) panel.start(byId(id), page);
 }
 
 async function start() {
-  const show = startTabs(byId("tabs"), byId("views"));
   const able = runsSixtyFourBits();
-  if (!able) return tellUnable();
-  const module = await WebAssembly.compile(bytesOf("module"));
+  const module = able ? await WebAssembly.compile(bytesOf("module")) : null;
   const program = new Program(module, 3);
-  program.warm(2);
   const fleet = new Program(module, Math.max(1, navigator.hardwareConcurrency || 4));
   /** @type {Page} */
-  const page = { store: new Store(), program, fleet, show };
-  for (const [id, panel] of Object.entries(PANELS)) panel.start(byId(id), page);
-  keepFlying(page);
+  const page = { store: new Store(), program, fleet, show: startTabs(byId("tabs"), byId("views")) };
+  if (able) program.warm(2);
+  startAll(READERS, page);
+  if (able) {
+    startAll(CALLERS, page);
+    keepFlying(page);
+  } else {
+    byId("status").textContent = UNABLE;
+    byId("status").classList.add("unable");
+    page.show("help");
+  }
   await openFirst(page);
 }
 
-start().catch((why) => byId("status").append(element("strong", {}, String(why))));
+start().catch((why) => {
+  byId("status").textContent = `the page failed: ${why.message}`;
+  byId("status").classList.add("unable");
+});

@@ -39,12 +39,20 @@ const read = ({ status, bytes }) => ({ status, text: decoder.decode(bytes) });
 /** How long a call that nobody wants any more may go on before its worker is ended, in milliseconds. */
 const PATIENCE = 100;
 
+/**
+ * What makes the address of the worker's code one that the page's policy takes; no other text becomes code or markup.
+ * @type {{createScriptURL: (address: string) => string}}
+ */
+const policy = /** @type {any} */ (globalThis).trustedTypes?.createPolicy("worker", { createScriptURL: (/** @type {string} */ address) => address }) ?? {
+  createScriptURL: (address) => address,
+};
+
 /** A worker, and the call that it is at. */
 class Seat {
-  /** @param {WebAssembly.Module} module */
+  /** @param {WebAssembly.Module | null} module */
   constructor(module) {
     const address = URL.createObjectURL(new Blob([valueOf("worker")], { type: "text/javascript" }));
-    this.worker = new Worker(address);
+    this.worker = new Worker(policy.createScriptURL(address));
     URL.revokeObjectURL(address);
     this.worker.postMessage(module);
     /** @type {Call | null} */
@@ -56,7 +64,7 @@ class Seat {
 /** The program, in so many workers. Calls that find none free wait in their order. */
 export class Program {
   /**
-   * @param {WebAssembly.Module} module
+   * @param {WebAssembly.Module | null} module null where this browser can't run it, and nothing is called
    * @param {number} count of the workers
    */
   constructor(module, count) {

@@ -5,14 +5,15 @@ import { NotADocument, get, readDocument } from "./toml.js";
 /** @typedef {import("./toml.js").Value} Value */
 
 /**
- * A refusal at its place in the text.
+ * A refusal, and its place in the text where it has one.
  * @typedef {object} Shown
- * @property {number} start
- * @property {number} end
+ * @property {string} line what the program wrote
+ * @property {{start: number, end: number} | null} place
  * @property {string} why
  * @property {string} mend
  */
 
+const NO_MEMORY = 10;
 const LONGEST = 1048576;
 const FORM = /^(?:(scenario) rule (\d+) at (\d+)|(task) (\d+) kind (\d+) at (\d+)|(table) (\d+) row (\d+) rule (\d+)|(script) entry (\d+) rule (\d+))$/;
 /** The kinds whose last number is no byte: the length of the code, and the bound of the steps. */
@@ -30,13 +31,27 @@ const SPEAKS_OF = {
   25: ["table", "at"], 26: ["fault"], 27: ["fault", "unit", "from"], 28: ["fault", "say", "storm"], 29: ["fault", "say"],
   30: ["fault", "storm"], 31: ["table", "shed"],
 };
-const ROOT_KEYS = ["version", "units", "frames", "subframes", "clock", "sensor", "task", "table", "fault"];
+/**
+ * The keys that each table may have, for the rules that speak of others.
+ * @type {Record<number, string[]>}
+ */
+const KNOWN = {
+  1: ["version", "units", "frames", "subframes", "clock", "sensor", "task", "table", "fault"],
+  6: ["skew", "error", "rate", "length", "start", "drift", "errors"],
+  15: ["name", "words"],
+  18: ["name", "start", "text", "linear"],
+  23: ["size", "run", "poll", "at", "shed"],
+  26: ["unit", "from", "say", "storm"],
+};
+/** Of each rule of tables the key whose entry for the task breaks it, and of each rule of scripts the key of the fault. */
+const TABLE_KEYS = ["", "at", "run", "poll", "poll", "at", "at", "at", "run", "at", "shed", "run"];
+const SCRIPT_KEYS = ["", "unit", "unit", "from", "unit", "say", "say"];
 const HIGHEST_OF_CLOCK = 14;
 
 /** @typedef {{start: number, end: number}} Place */
 
 /**
- * The place of a key with its value, or of the table where it is missing.
+ * The place of the value of a key, or of the table where it is missing.
  * @param {Value} table
  * @param {string[]} keys
  * @returns {Place}
@@ -44,7 +59,6 @@ const HIGHEST_OF_CLOCK = 14;
 function placeOf(table, keys) {
   for (const key of keys) {
     const entry = table.data.get(key);
-    if (entry && entry.value.origin !== "header") return { start: entry.start, end: entry.value.end };
     if (entry) return entry.value;
   }
   return table;
@@ -70,14 +84,12 @@ function entryOf(root, list, number) {
  * @returns {Place}
  */
 function placeOfRule(root, rule, number) {
-  if (rule === 1) {
-    const unknown = [...root.data].find(([name]) => !ROOT_KEYS.includes(name));
-    return unknown ? unknown[1] : root;
-  }
   const [first, ...keys] = SPEAKS_OF[rule] ?? [];
-  const entry = entryOf(root, first, number);
+  const entry = first ? entryOf(root, first, number) : root;
+  const unknown = entry.kind === "table" && KNOWN[rule] && [...entry.data].find(([name]) => !KNOWN[rule].includes(name));
+  if (unknown) return unknown[1];
   if (entry.kind === "table" && entry !== root && (rule <= HIGHEST_OF_CLOCK || keys.length > 0)) return placeOf(entry, keys);
-  return entry === root || rule < 6 ? placeOf(root, [first]) : entry;
+  return entry === root || rule < 6 ? placeOf(root, first ? [first] : []) : entry;
 }
 
 /**
@@ -100,10 +112,15 @@ function placeOfTask(root, task, kind, at) {
 /**
  * @param {Value} root
  * @param {number} size
+ * @param {number} task
+ * @param {number} rule
  * @returns {Place}
  */
-function placeOfTable(root, size) {
-  return get(root, "table") ? entryOf(root, "table", size - 4) : placeOf(root, ["subframes", "units"]);
+function placeOfTable(root, size, task, rule) {
+  if (!get(root, "table")) return placeOf(root, ["subframes", "units"]);
+  const table = entryOf(root, "table", size - 4);
+  const list = table.kind === "table" ? get(table, TABLE_KEYS[rule]) : undefined;
+  return (list?.kind === "array" && rule !== 1 && list.data[task]) || list || table;
 }
 
 /**
@@ -117,28 +134,55 @@ function told(sort, rule) {
 }
 
 /**
- * Where a refusal comes from, and what there is to say of it.
- * @param {string} text the document
- * @param {string} line what the program wrote
- * @returns {Shown}
+ * Where a refused document breaks a rule, and what the pages say of it.
+ * @param {string} text
+ * @param {string} line
+ * @returns {Omit<Shown, "line"> | null} null where the line is of no rule
  */
-export function shownRefusal(text, line) {
-  if (line === "too long") return { start: Math.min(LONGEST, text.length - 1), end: text.length, why: `a document has at most ${LONGEST} bytes`, mend: "see that the right file is read; shorten its comments" };
-  try {
-    const { root } = readDocument(text);
-    const found = FORM.exec(line);
-    if (!found) return { start: 0, end: 0, why: line, mend: "" };
-    const [, scenario, rule, at, task, number, kind, byte, table, size, , row, script, fault, last] = found;
-    if (scenario) return { ...spot(placeOfRule(root, Number(rule), Number(at))), ...told("scenario", Number(rule)) };
-    if (task) return { ...spot(placeOfTask(root, Number(number), Number(kind), Number(byte))), ...told("task", Number(kind)) };
-    if (table) return { ...spot(placeOfTable(root, Number(size))), ...told("table", Number(row)) };
-    if (script) return { ...spot(entryOf(root, "fault", Number(fault))), ...told("script", Number(last)) };
-  } catch (why) {
-    if (why instanceof NotADocument) return { start: why.place, end: why.end, why: why.why, mend: why.mend };
-    throw why;
-  }
-  return { start: 0, end: 0, why: line, mend: "" };
+function broken(text, line) {
+  const found = FORM.exec(line);
+  if (!found) return null;
+  const { root } = readDocument(text);
+  const [, scenario, rule, at, task, number, kind, byte, table, size, place, row, , fault, last] = found;
+  if (scenario) return { place: spot(placeOfRule(root, Number(rule), Number(at))), ...told("scenario", Number(rule)) };
+  if (task) return { place: spot(placeOfTask(root, Number(number), Number(kind), Number(byte))), ...told("task", Number(kind)) };
+  if (table) return { place: spot(placeOfTable(root, Number(size), Number(place), Number(row))), ...told("table", Number(row)) };
+  return { place: spot(placeOf(entryOf(root, "fault", Number(fault)), [SCRIPT_KEYS[Number(last)]])), ...told("script", Number(last)) };
 }
 
-/** @param {Place} place */
+/**
+ * Where a text is no document.
+ * @param {string} text
+ * @returns {Omit<Shown, "line">}
+ */
+function noDocument(text) {
+  try {
+    readDocument(text);
+  } catch (why) {
+    if (why instanceof NotADocument) return { place: { start: why.place, end: why.end }, why: why.why, mend: why.mend };
+    throw why;
+  }
+  return { place: null, why: "it isn't TOML as the program reads it", mend: "" };
+}
+
+/**
+ * What there is to say of a refusal.
+ * @param {string} text the document
+ * @param {import("./program.js").Reply} refusal
+ * @returns {Shown}
+ */
+export function shownRefusal(text, { status, text: written }) {
+  const line = written.trimEnd();
+  if (status === NO_MEMORY) return { line: "no memory", place: null, why: "there wasn't enough memory for this flight", mend: "fewer frames, or another browser window less" };
+  if (line === "not a document") return { line, ...noDocument(text) };
+  if (line === "too long") {
+    return { line, place: { start: Math.min(LONGEST, text.length), end: text.length }, why: `a document has at most ${LONGEST} bytes`, mend: "see that the right file is read; shorten its comments" };
+  }
+  return { line, ...(broken(text, line) ?? { place: null, why: "", mend: "" }) };
+}
+
+/**
+ * @param {Place} place
+ * @returns {Place}
+ */
 const spot = ({ start, end }) => ({ start, end });
