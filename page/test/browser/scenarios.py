@@ -83,11 +83,11 @@ def a_mistake_is_marked_where_it_stands(page, address, top):
     demand("units = 55\n" in text_of(page), "the keystroke isn't in the text")
     refusal = page.run("return document.getElementById('refusal').textContent")
     demand("scenario rule 2 at 0" in refusal and "line 4" in refusal and "What to do" in refusal, f"the refusal is told as: {refusal}")
-    marked = page.run("return [...document.querySelectorAll('.CodeMirror .refused')].map((each) => each.textContent).join('')")
+    marked = page.run("return [...document.querySelectorAll('.CodeMirror .refused-here')].map((each) => each.textContent).join('')")
     demand("55" in marked, f"what is marked is: {marked}")
     page.keys(Keys.BACKSPACE)
     flown(page)
-    demand(not page.run("return document.querySelector('.CodeMirror .refused') || document.getElementById('refusal').textContent"), "the mark stays")
+    demand(not page.run("return document.querySelector('.CodeMirror .refused-here') || document.getElementById('refusal').textContent"), "the mark stays")
 
 
 def each_mistake_has_its_line(page, address, top):
@@ -174,8 +174,9 @@ def a_unit_turns_stray(page, address, top):
     flown(page)
     page.run("document.querySelector('#fault input[value=storm]').click()")
     page.click("#fault button[type=submit]")
-    wait(page, "return document.getElementById('cell-0-0').getAttribute('class') === 'faulty'", what="unit 0 is faulty")
-    demand("[fault.storm]\nnumber = 1\nstrays = 100000\n" in text_of(page), "there is no storm in the document")
+    frame = page.run("return document.querySelector('#fault input[type=number]').value")
+    wait(page, f"return document.getElementById('cell-0-{frame}').getAttribute('class') === 'faulty'", what="unit 0 is faulty")
+    demand(f"unit = 0\nfrom = {frame}\n\n[fault.storm]\nnumber = 1\nstrays = 100000\n" in text_of(page), "there is no storm in the document")
 
 
 # Campaigns.
@@ -198,7 +199,8 @@ def a_campaign_is_that_of_tools_sweep(page, address, top):
     page.open(address)
     flown(page)
     for name in ("first_5_liar", "placed_reader"):
-        opened(page, f"{name}.toml", read(f"{top}/missions/{name}.toml"))
+        if name != "first_5_liar":
+            opened(page, f"{name}.toml", read(f"{top}/missions/{name}.toml"))
         show(page, "campaign")
         swept(page)
         page.run("[...document.querySelectorAll('#campaign button')].find((each) => each.textContent === 'Rows as TSV').click()")
@@ -401,7 +403,8 @@ def no_code_runs_by_the_policy(page, address, top):
     """Were text ever taken as markup, the page's policy would stop it."""
     page.open(address)
     flown(page)
-    page.run("const box = document.createElement('div'); box.innerHTML = arguments[0]; document.body.append(box); const code = document.createElement('script'); code.textContent = 'window.harmed = 1'; document.body.append(code)", MARKUP)
+    page.run("try { const box = document.createElement('div'); box.innerHTML = arguments[0]; document.body.append(box); } catch {}", MARKUP)
+    page.run("try { const code = document.createElement('script'); code.textContent = 'window.harmed = 1'; document.body.append(code); } catch {}")
     fetched = page.answer("return await fetch('https://example.org/').then(() => 'fetched', () => 'refused');")
     demand(page.run("return window.harmed === undefined"), "the page's policy lets other code run")
     demand(fetched == "refused", "the page's policy lets the page load")
@@ -459,7 +462,8 @@ def a_report_is_judged(page, address, top):
         (re.sub(r"(f=1 skew.*)ok", r"\1lost", report), "no frame 1 rule 8", "the margin that is due is ok"),
         (re.sub(r"f=2 u=1 .*\n", "", report), "no frame 2 rule 1", ""),
         (re.sub(r"(f=2 u=0 .*)fffa", r"\1FFFA", report), "report line 13", "Line 13"),
-        ("", "report line 1", "missing"),
+        ("", "no frame 0 rule 1", ""),
+        ("f=0 u=0 cfg=01234 clk=0\n", "report line 1", "Line 1"),
     ]
     for given, line, words in changes:
         page.run("document.querySelector('#judge .verdict').replaceChildren(); document.getElementById('judged-report').value = arguments[0]; document.querySelector('#judge button.main').click()", given)
