@@ -210,7 +210,7 @@ def a_campaign_is_that_of_tools_sweep(page, address, top):
         demand(sweep in (None, rows), f"{name} has other rows than tools/sweep has")
     told = page.run("return document.querySelector('#campaign .result').textContent")
     demand(re.search(r"Of the cells \d+ better, 0 worse, \d+ as before", told), f"the campaigns are compared as: {told[:300]}")
-    demand(page.run("return document.querySelector('#campaign td.better .before').textContent").strip() == "b*", "the believed reader isn't shown as better now")
+    demand(page.run("return document.querySelector('#campaign td.better .before').textContent") == "b* →", "the believed reader isn't shown as better now")
     return "with tools/sweep" if sweep else "with the stored tables alone: there is no program out/sift, or no GNU parallel"
 
 
