@@ -98,12 +98,13 @@ function changesTold(flight) {
 }
 
 /**
- * All that happened, in the order of the frames.
+ * All that happened, in the order of the frames, with what the mission states.
  * @param {Flight} flight
+ * @param {Event[]} [stated]
  * @returns {Event[]}
  */
-export function eventsOf(flight) {
-  const events = [...faultsTold(flight), ...catchesTold(flight), ...changesTold(flight)];
+export function eventsOf(flight, stated = []) {
+  const events = [...faultsTold(flight), ...stated, ...catchesTold(flight), ...changesTold(flight)];
   if (events.length === 0) return [{ frame: 0, place: 0, words: "every unit works in every frame, and nobody is caught" }];
   return events.sort((one, other) => one.frame - other.frame || one.place - other.place || (one.words < other.words ? -1 : 1));
 }

@@ -1,7 +1,8 @@
 /** The flight as a drawing that one reads, points at, and goes through by keys. */
-import { byId, drawn, element } from "./elements.js";
+import { byId, drawn, element, prose } from "./elements.js";
 import { eventsOf, headlineOf, slackOf } from "./events.js";
-import { ROW, drawFlight, drawOverview, labels, patterns, rowsOf, tellUnit } from "./picture.js";
+import { ROW, drawFlight, drawOverview, drawShown, labels, patterns, rowsOf, tellUnit } from "./picture.js";
+import { statedBy } from "./stated.js";
 
 /** @typedef {import("./report.js").Flight} Flight */
 /** @typedef {import("./picture.js").Mark} Mark */
@@ -34,6 +35,7 @@ export class FlightDrawing {
     this.overviewOf = null;
     this.names = drawn("svg", { class: "labels", width: LABELS, "aria-hidden": "true" });
     this.picture = drawn("svg", { class: "picture", role: "presentation" });
+    this.over = drawn("g", { role: "presentation" });
     this.inner = element("div", { class: "inner", role: "presentation" }, this.picture);
     this.grid = element(
       "div",
@@ -46,7 +48,7 @@ export class FlightDrawing {
     );
     this.whole = drawn("svg", { class: "overview", preserveAspectRatio: "none", "aria-hidden": "true" });
     this.whole.addEventListener("pointerdown", (event) => this.jump(event));
-    this.told = element("p", { class: "pointed" });
+    this.told = element("p", { class: "pointed", role: "status" });
     host.append(element("div", { class: "drawing" }, this.names, this.grid), this.whole, this.told);
     new ResizeObserver(() => this.draw()).observe(this.grid);
   }
@@ -79,7 +81,7 @@ export class FlightDrawing {
     if (!this.flight || (frame === this.frame && unit === this.unit)) return;
     this.frame = frame;
     this.unit = unit;
-    this.draw();
+    this.drawOver();
     this.reveal();
   }
 
@@ -116,7 +118,7 @@ export class FlightDrawing {
 
   draw() {
     if (!this.flight || this.grid.clientWidth === 0) return;
-    const { cell, flight, marks, frame, unit } = this;
+    const { cell, flight } = this;
     const { height } = rowsOf(flight.units);
     this.inner.style.width = `${flight.frames.length * cell + 2}px`;
     this.inner.style.height = `${height}px`;
@@ -129,9 +131,17 @@ export class FlightDrawing {
     this.picture.setAttribute("width", String(width));
     this.picture.setAttribute("height", String(height));
     this.picture.style.left = `${this.drawnFrom * cell}px`;
-    this.picture.replaceChildren(patterns(), ...drawFlight(flight, { first: this.drawnFrom, last: this.drawnTo, cell, marks, frame, unit }));
-    this.grid.setAttribute("aria-activedescendant", `cell-${unit ?? 0}-${frame}`);
+    this.picture.replaceChildren(patterns(), ...drawFlight(flight, { first: this.drawnFrom, last: this.drawnTo, cell, partly: flight.frames.length * cell > this.grid.clientWidth }), this.over);
+    this.drawOver();
     this.drawOverview();
+  }
+
+  /** What lies over the picture: the opened frame, the chosen unit, and the marks. */
+  drawOver() {
+    if (!this.flight) return;
+    const { cell, flight, marks, frame, unit } = this;
+    this.over.replaceChildren(...drawShown(flight, { first: this.drawnFrom, last: this.drawnTo, cell, marks, frame, unit }));
+    this.grid.setAttribute("aria-activedescendant", `cell-${unit ?? 0}-${frame}`);
   }
 
   /** The whole flight in little, where not all of it is seen. */
@@ -265,13 +275,14 @@ function key() {
 }
 
 /**
- * What happened, in words, each with its frame behind it.
- * @param {Flight} flight
+ * What happened, in words, each of which opens its frame.
+ * @param {import("./document.js").Flown} flown
  * @param {(frame: number) => void} open
  */
-function eventList(flight, open) {
-  const events = eventsOf(flight);
-  return events.map(({ frame, words }) => element("li", {}, element("button", { type: "button", class: "event", onclick: () => open(frame) }, words)));
+function eventList({ flight, mission }, open) {
+  return eventsOf(flight, statedBy(mission, flight)).map(({ frame, words }) =>
+    element("li", {}, element("button", { type: "button", class: "event", onclick: () => open(Math.min(frame, flight.frames.length - 1)) }, ...prose(words))),
+  );
 }
 
 /**
@@ -300,7 +311,7 @@ export function start(section, { store }) {
       headline.textContent = headlineOf(flight);
       slack.textContent = slackOf(flight);
       drawing.show(flight, [], state.frame, state.unit);
-      events.replaceChildren(...eventList(flight, (frame) => store.update({ frame })));
+      events.replaceChildren(...eventList(state.flown, (frame) => store.update({ frame })));
     } else if (changed.has("frame") || changed.has("unit")) {
       drawing.choose(state.frame, state.unit);
     }

@@ -21,6 +21,10 @@ import { Votes } from "./votes.js";
  * @property {string[][]} ideal
  */
 
+/** Of a flight with more words the tables of words are drawn where a frame stays opened for so many milliseconds. */
+const FEW = 12;
+const REST = 120;
+
 /** How words are shown: as hexadecimal digits, or as signed numbers. */
 let decimal = false;
 
@@ -167,7 +171,9 @@ export function start(section, { store, program }) {
   /** @type {More | null} */
   let more = null;
   const number = element("input", { type: "number", min: 0, "aria-label": "frame", class: "frame-number" });
-  const body = element("div", { "aria-live": "polite" });
+  const units = element("div", {});
+  const words = element("div", { id: "words" });
+  let resting = 0;
   /** @param {number} to */
   const go = (to) => {
     const last = (store.state.flown?.flight.frames.length ?? 1) - 1;
@@ -195,7 +201,8 @@ export function start(section, { store, program }) {
         element("label", {}, base, " decimal"),
       ),
     ),
-    body,
+    units,
+    words,
   );
 
   /**
@@ -215,16 +222,26 @@ export function start(section, { store, program }) {
     if (!flown || !frame) return;
     number.value = String(place);
     number.max = String(flown.flight.frames.length - 1);
-    const known = more?.of === flown ? more : null;
+    units.replaceChildren(element("p", { class: "more" }, tellFrame(frame)), unitsTable(frame, unit));
+    clearTimeout(resting);
+    const many = wordsOf(flown.mission).length > FEW;
+    resting = setTimeout(() => drawWords(flown, frame, place), many ? REST : 0);
+  }
+
+  /**
+   * The tables of words, which are large where there are many.
+   * @param {Flown} flown
+   * @param {Frame} frame
+   * @param {number} place
+   */
+  function drawWords(flown, frame, place) {
     const { mission } = flown;
+    const known = more?.of === flown ? more : null;
     const told = frame.units.some((account) => account.outputs);
     const votes = known?.votes.of(place);
-    body.replaceChildren(
-      element("p", { class: "more" }, tellFrame(frame)),
-      unitsTable(frame, unit),
-      ...(told && mission.sensors.length > 0
-        ? [wordsTable("Agreed inputs", "sensor", mission.sensors.map((sensor) => sensor.name), frame, "inputs", null)]
-        : []),
+    const sensors = mission.sensors.map((sensor) => sensor.name);
+    words.replaceChildren(
+      ...(told && sensors.length > 0 ? [wordsTable("Agreed inputs", "sensor", sensors, frame, "inputs", null)] : []),
       ...(told ? [wordsTable("Outputs", "word", wordsOf(mission), frame, "outputs", known?.ideal[place] ?? null)] : []),
       votes && votes.size > 0 ? votesTable(votes) : element("p", { class: "more" }, known ? "no unit voted" : "…"),
     );
@@ -234,7 +251,7 @@ export function start(section, { store, program }) {
     if (changed.has("flown") || changed.has("frame") || changed.has("unit")) draw(state);
     if (changed.has("flown") && state.flown) {
       ask(state.flown).catch((why) => {
-        if (!(why instanceof Stopped)) body.append(element("p", { class: "alarm" }, `the votes aren't known: ${why.message}`));
+        if (!(why instanceof Stopped)) words.append(element("p", { class: "alarm" }, `the votes aren't known: ${why.message}`));
       });
     }
   });

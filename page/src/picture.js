@@ -16,6 +16,7 @@ import { catchersOf, caughtBy, groupedByKinds, lookOf, stretchesOf, when } from 
  * @property {number} first
  * @property {number} last
  * @property {number} cell
+ * @property {boolean} [partly] whether one sees a part of it at a time, so that words stand again and again
  * @property {Mark[]} [marks]
  * @property {number} [frame] the frame that is opened
  * @property {number | null} [unit] the unit that is chosen in it
@@ -26,6 +27,7 @@ const BAR = 21;
 const TOP = 26;
 const BAND = 20;
 const PLOT = 34;
+const AGAIN = 420; // after so many pixels the words of a long stretch stand again
 
 /** @type {Record<import("./report.js").Look, string>} */
 export const LOOKS = {
@@ -229,18 +231,35 @@ class Picture {
   }
 
   /**
-   * A band of pieces, each with its words where there is room.
+   * The words of a stretch, at its beginning, and where one sees a part at a time again and again.
+   * @param {[number, number, unknown]} stretch
+   * @param {number} y
+   * @param {string} kind
+   * @param {number} wide of a letter
+   */
+  words([first, last, value], y, kind, wide) {
+    const words = String(value);
+    const step = Math.ceil(AGAIN / this.view.cell);
+    const places = Array.from({ length: last - first + 1 }, (_, place) => first + place).filter((number) => number === first || (this.view.partly && number % step === 0));
+    const room = wide * words.length + 6;
+    return places
+      .filter((number, place) => ((places[place + 1] ?? last + 1) - number) * this.view.cell >= room)
+      .map((number) => drawn("text", { class: kind, x: this.x(number) + 3, y }, words));
+  }
+
+  /**
+   * A band of pieces with their words.
    * @param {number} y
    * @param {[number, number, string][]} stretches
-   * @param {(value: string, first: number) => string} kind
+   * @param {(value: string) => string} kind
    */
   band(y, stretches, kind) {
-    return stretches.flatMap(([first, last, value]) => {
-      const x = this.x(first);
-      const width = (last - first + 1) * this.view.cell;
+    return stretches.flatMap((stretch) => {
+      const [first, last, value] = stretch;
+      const width = Math.max((last - first + 1) * this.view.cell - 1, 0.5);
       return [
-        drawn("rect", { class: kind(value, first), x, y, width: Math.max(width - 1, 0.5), height: BAND }, drawn("title", {}, `${when(first, last)}: ${value}`)),
-        ...(8 * value.length + 6 <= width ? [drawn("text", { class: "band-words", x: x + 4, y: y + 14.5 }, value)] : []),
+        drawn("rect", { class: kind(value), x: this.x(first), y, width, height: BAND }, drawn("title", {}, `${when(first, last)}: ${value}`)),
+        ...this.words(stretch, y + 14.5, "band-words", 8),
       ];
     });
   }
@@ -266,15 +285,15 @@ class Picture {
   steps(name) {
     const base = this.rows[name] + PLOT;
     const scale = (PLOT - 12) / greatestOf(this.flight, name);
-    const whole = this.stretches((frame) => frame[name]).flatMap(([first, last, value]) => {
+    const whole = this.stretches((frame) => frame[name]).flatMap((stretch) => {
+      const [first, last, value] = stretch;
       if (value === null) return [];
       const height = Math.max(0, value) * scale;
       const width = (last - first + 1) * this.view.cell;
-      const words = String(value);
       return [
         drawn("rect", { class: `${name}-fill`, x: this.x(first), y: base - height, width, height }, drawn("title", {}, `${when(first, last)}: ${name} ${value}`)),
         drawn("line", { class: `${name}-line`, x1: this.x(first), x2: this.x(first) + width, y1: base - height, y2: base - height }),
-        ...(7 * words.length + 4 <= width ? [drawn("text", { class: "plot-words", x: this.x(first) + 3, y: base - height - 3 }, words)] : []),
+        ...this.words(stretch, base - height - 3, "plot-words", 7),
       ];
     });
     return [drawn("line", { class: "ground", x1: 0, x2: this.x(this.view.last + 1), y1: base + 0.5, y2: base + 0.5 }), ...whole];
@@ -306,7 +325,7 @@ class Picture {
   }
 
   all() {
-    return [...this.axis(), ...this.units(), ...this.catches(), ...this.changes(), ...this.steps("skew"), ...this.steps("slack"), ...this.shown()];
+    return [...this.axis(), ...this.units(), ...this.catches(), ...this.changes(), ...this.steps("skew"), ...this.steps("slack")];
   }
 }
 
@@ -317,6 +336,14 @@ class Picture {
  * @returns {Element[]}
  */
 export const drawFlight = (flight, view) => new Picture(flight, view).all();
+
+/**
+ * The elements that lie over a picture: the frame that is opened, the unit that is chosen in it, and the marks.
+ * @param {Flight} flight
+ * @param {View} view
+ * @returns {Element[]}
+ */
+export const drawShown = (flight, view) => new Picture(flight, view).shown();
 
 /**
  * The whole flight in little: of each unit the stretches in which it looks alike, in a box as wide as the frames and as high as

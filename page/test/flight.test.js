@@ -5,6 +5,7 @@ import { test } from "node:test";
 import { eventsOf, headlineOf, slackOf } from "../src/events.js";
 import { readMission } from "../src/mission.js";
 import { NoReport, lookOf, readReport } from "../src/report.js";
+import { statedBy } from "../src/stated.js";
 import { withTables } from "../src/tables.js";
 import { Votes } from "../src/votes.js";
 
@@ -34,10 +35,19 @@ test("what happened is told in the words of tools/picture", () => {
   for (const name of ["eight_units", "first_5_liar", "past_the_margin"]) {
     const picture = readFileSync(new URL(`../docs/pictures/${name}.txt`, folder), "utf8");
     const flight = readReport(fileOf(`${name}.report`));
+    const events = eventsOf(flight, statedBy(readMission(fileOf(`${name}.toml`)), flight));
     assert.ok(picture.includes(headlineOf(flight)), name);
-    for (const { words } of eventsOf(flight)) assert.ok(picture.split("\n").includes(words), `${name}: ${words}`);
+    assert.ok(picture.endsWith(`\n\n${events.map(({ words }) => `${words}\n`).join("")}`), name);
   }
   assert.equal(slackOf(readReport(fileOf("first_5_liar.report"))), "the least slack is 34 ticks, first in frame 0");
+});
+
+test("stray units, false reports and tasks that are shed are told", () => {
+  /** @param {string} name */
+  const told = (name) => statedBy(readMission(fileOf(`${name}.toml`)), readReport(fileOf(`${name}.report`))).map(({ words }) => words);
+  assert.deepEqual(told("stray_writer"), ["frame 10: unit 5 is stray: 100,000 strays are drawn from the number 1"]);
+  assert.ok(told("shed_display").includes("frames 3 to 5: display is shed; what stands in `out` is held from before"));
+  assert.ok(told("false_accuser").some((words) => /says \d+ \(.* caught\) as report to/.test(words)));
 });
 
 test("a unit that is faulty and out looks otherwise than one that is in", () => {
