@@ -33,7 +33,7 @@ function cellOf(where, cell, before, compares, open) {
   const change = compares ? changeOf(before, cell) : null;
   if (!cell && !before) return element("td", {});
   const [sign, told] = change ? CHANGES[change] : ["", ""];
-  const earlier = change && change !== "same" && before ? element("span", { class: "before" }, `${before.mark} `) : null;
+  const earlier = change && change !== "same" && before ? element("span", { class: "before" }, `${before.mark} →`) : null;
   if (!cell) return element("td", { class: "gone" }, earlier, sign);
   const words = `${where}: ${cell.words}${told ? `; ${told}` : ""}`;
   const { number } = cell.row;
@@ -57,7 +57,7 @@ export function tablesOf(table, before, open) {
       { class: "scroll" },
       element(
         "table",
-        { class: "campaign" },
+        { class: `campaign${before ? " compared" : ""}` },
         element("caption", {}, kind),
         element("thead", {}, element("tr", {}, element("th", { scope: "col" }, "unit"), ...units.map((unit) => element("th", { scope: "col" }, unit)))),
         element(

@@ -2,6 +2,7 @@
 import json
 import os
 import re
+import shutil
 import subprocess
 
 from selenium.webdriver.common.keys import Keys
@@ -195,32 +196,40 @@ def judged(rows):
     return "".join("\t".join([*line[:10], "yes" if place else line[10], *line[11:]]) + "\n" for place, line in enumerate(cells))
 
 
-def a_campaign_is_that_of_tools_sweep(page, address, top):
+def rows_of(page, top, name, moments="0"):
+    """The rows that the page has of a mission with faults from some frames on."""
+    if text_of(page) != read(f"{top}/missions/{name}.toml"):
+        opened(page, f"{name}.toml", read(f"{top}/missions/{name}.toml"))
+    show(page, "campaign")
+    page.run("document.querySelector('#campaign input[type=text]').value = arguments[0]", moments)
+    swept(page)
+    page.run("[...document.querySelectorAll('#campaign button')].find((each) => each.textContent === 'Rows as TSV').click()")
+    return page.saved(f"{name}.tsv").decode()
+
+
+def a_campaign_is_the_stored_one(page, address, top):
     page.open(address)
     flown(page)
     for name in ("first_5_liar", "placed_reader"):
-        if name != "first_5_liar":
-            opened(page, f"{name}.toml", read(f"{top}/missions/{name}.toml"))
-        show(page, "campaign")
-        swept(page)
-        page.run("[...document.querySelectorAll('#campaign button')].find((each) => each.textContent === 'Rows as TSV').click()")
-        rows = page.saved(f"{name}.tsv").decode()
-        demand(rows == judged(read(f"{top}/cases/sweeps/{name}.tsv")), f"{name} has other rows than the stored ones")
-        sweep = by_tools_sweep(top, name, page.folder)
-        demand(sweep in (None, rows), f"{name} has other rows than tools/sweep has")
+        demand(rows_of(page, top, name) == judged(read(f"{top}/cases/sweeps/{name}.tsv")), f"{name} has other rows than the stored ones")
     told = page.run("return document.querySelector('#campaign .result').textContent")
     demand(re.search(r"Of the cells \d+ better, 0 worse, \d+ as before", told), f"the campaigns are compared as: {told[:300]}")
-    demand(page.run("return document.querySelector('#campaign td.better .before').textContent").strip() == "b*", "the believed reader isn't shown as better now")
-    return "with tools/sweep" if sweep else "with the stored tables alone: there is no program out/sift, or no GNU parallel"
+    demand(page.run("return document.querySelector('#campaign td.better .before').textContent") == "b* →", "the believed reader isn't shown as better now")
 
 
-def by_tools_sweep(top, name, folder):
-    """The rows that tools/sweep makes of a mission, or None where it can't here."""
-    if not os.path.exists(f"{top}/out/sift"):
-        return None
-    out = f"{folder}/sweep_{name}"
-    told = subprocess.run([f"{top}/tools/sweep", f"{top}/missions/{name}.toml", "--out", out], capture_output=True, check=False)
-    return read(f"{out}/runs.tsv") if told.returncode in (0, 1) else None
+def a_campaign_is_that_of_tools_sweep(page, address, top):
+    """To the byte, with faults from several frames on, a table that sheds, and clocks."""
+    program = os.environ.get("SIFT", f"{top}/out/sift")
+    if not os.path.exists(program) or not shutil.which("parallel"):
+        return "skipped: there is no program out/sift, or no GNU parallel"
+    page.open(address)
+    flown(page)
+    for name, moments in (("shed_display", "0,3"), ("two_faults_in_turn", "0-2,4"), ("two_faced_clock", "0")):
+        out = f"{page.folder}/sweep_{name}"
+        words = [f"{top}/tools/sweep", f"{top}/missions/{name}.toml", "--from", moments, "--program", program, "--out", out]
+        told = subprocess.run(words, capture_output=True, text=True, check=False)
+        demand(told.returncode in (0, 1), f"tools/sweep ends with status {told.returncode}: {told.stderr}")
+        demand(rows_of(page, top, name, moments) == read(f"{out}/runs.tsv"), f"{name} has other rows than tools/sweep has")
 
 
 def a_cell_opens_its_flight(page, address, top):
@@ -503,6 +512,7 @@ SCENARIOS = [
     a_keystroke_is_checked_soon,
     a_fault_is_clicked,
     a_unit_turns_stray,
+    a_campaign_is_the_stored_one,
     a_campaign_is_that_of_tools_sweep,
     a_cell_opens_its_flight,
     a_campaign_is_stopped_and_goes_on,
