@@ -1,7 +1,7 @@
 /** The flight as a drawing that one reads, points at, and goes through by keys. */
 import { byId, drawn, element, prose } from "./elements.js";
 import { eventsOf, headlineOf, slackOf } from "./events.js";
-import { ROW, drawFlight, drawOverview, drawShown, labels, patterns, rowsOf, tellUnit } from "./picture.js";
+import { ROW, drawFlight, drawOverview, drawShown, labels, rowsOf, tellUnit } from "./picture.js";
 import { statedBy } from "./stated.js";
 
 /** @typedef {import("./report.js").Flight} Flight */
@@ -12,6 +12,8 @@ const WIDEST = 110;
 const CLOSEST = 6;
 const LABELS = 104;
 
+let drawings = 0;
+
 /** A drawing of a flight in an element. Of a long one only the frames that are seen, and some beside them, are elements. */
 export class FlightDrawing {
   /**
@@ -21,6 +23,8 @@ export class FlightDrawing {
    */
   constructor(host, onchoose = () => {}, label = "The flight: units by frames") {
     this.onchoose = onchoose;
+    drawings += 1;
+    this.id = `cell-${drawings}`;
     /** @type {Flight | null} */
     this.flight = null;
     /** @type {Mark[]} */
@@ -131,7 +135,8 @@ export class FlightDrawing {
     this.picture.setAttribute("width", String(width));
     this.picture.setAttribute("height", String(height));
     this.picture.style.left = `${this.drawnFrom * cell}px`;
-    this.picture.replaceChildren(patterns(), ...drawFlight(flight, { first: this.drawnFrom, last: this.drawnTo, cell, partly: flight.frames.length * cell > this.grid.clientWidth }), this.over);
+    const partly = flight.frames.length * cell > this.grid.clientWidth;
+    this.picture.replaceChildren(...drawFlight(flight, { first: this.drawnFrom, last: this.drawnTo, cell, partly, id: this.id }), this.over);
     this.drawOver();
     this.drawOverview();
   }
@@ -141,7 +146,7 @@ export class FlightDrawing {
     if (!this.flight) return;
     const { cell, flight, marks, frame, unit } = this;
     this.over.replaceChildren(...drawShown(flight, { first: this.drawnFrom, last: this.drawnTo, cell, marks, frame, unit }));
-    this.grid.setAttribute("aria-activedescendant", `cell-${unit ?? 0}-${frame}`);
+    this.grid.setAttribute("aria-activedescendant", `${this.id}-${unit ?? 0}-${frame}`);
   }
 
   /** The whole flight in little, where not all of it is seen. */
@@ -170,8 +175,12 @@ export class FlightDrawing {
   reveal() {
     const left = this.frame * this.cell;
     const { scrollLeft, clientWidth } = this.grid;
-    if (left < scrollLeft) this.grid.scrollLeft = left - this.cell;
-    else if (left + this.cell > scrollLeft + clientWidth) this.grid.scrollLeft = left + 2 * this.cell - clientWidth;
+    const before = scrollLeft - left;
+    const behind = left + this.cell - scrollLeft - clientWidth;
+    // A step goes on where it is, and what is far off comes to the middle.
+    if (Math.max(before, behind) > 2 * this.cell) this.grid.scrollLeft = left - clientWidth / 2;
+    else if (before > 0) this.grid.scrollLeft = left - this.cell;
+    else if (behind > 0) this.grid.scrollLeft = left + 2 * this.cell - clientWidth;
   }
 
   /**

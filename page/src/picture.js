@@ -17,6 +17,7 @@ import { catchersOf, caughtBy, groupedByKinds, lookOf, stretchesOf, when } from 
  * @property {number} last
  * @property {number} cell
  * @property {boolean} [partly] whether one sees a part of it at a time, so that words stand again and again
+ * @property {string} [id] what the ids of cells begin with
  * @property {Mark[]} [marks]
  * @property {number} [frame] the frame that is opened
  * @property {number | null} [unit] the unit that is chosen in it
@@ -163,7 +164,7 @@ class Picture {
         ...this.numbers.map((number) =>
           drawn("rect", {
             role: "gridcell",
-            id: `cell-${unit}-${number}`,
+            id: `${this.view.id ?? "cell"}-${unit}-${number}`,
             "aria-colindex": number + 1,
             "aria-label": tellUnit(this.flight, number, unit),
             class: lookOf(this.flight.frames[number], unit),
@@ -315,9 +316,9 @@ class Picture {
       ),
       ...(frame !== undefined && frame >= first && frame <= last
         ? [
-            drawn("rect", { class: "opened", x: this.x(frame) - 1, y: 2, width: cell + 1, height: this.rows.height - 4 }),
+            drawn("rect", { class: "opened", x: this.x(frame) + 1, y: 2, width: cell - 2, height: this.rows.height - 4 }),
             ...(unit !== undefined && unit !== null
-              ? [drawn("rect", { class: "chosen", x: this.x(frame) - 1, y: this.y(unit) - 2, width: cell + 1, height: BAR + 4 })]
+              ? [drawn("rect", { class: "chosen", x: this.x(frame) + 2, y: this.y(unit) - 2, width: cell - 4, height: BAR + 4 })]
               : []),
           ]
         : []),
