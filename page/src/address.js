@@ -1,23 +1,19 @@
 /** The address of the page: a link that holds a document opens it. */
 import { valueOf } from "./data.js";
-import { element } from "./elements.js";
+import { notice } from "./elements.js";
 import { NoDocument, documentOf, holdsDocument } from "./links.js";
 
 const FIRST = "first_5_liar";
 
-/**
- * The document that the address holds, or null.
- * @param {HTMLElement} alert where it is said that it can't be read
- */
-async function linked(alert) {
-  alert.hidden = true;
+/** The document that the address holds, or null; it is said where it can't be read. */
+async function linked() {
+  notice("");
   if (!holdsDocument(location.hash)) return null;
   try {
     return await documentOf(location.hash);
   } catch (why) {
     if (!(why instanceof NoDocument)) throw why;
-    alert.textContent = `This link opens no mission: ${why.message}.`;
-    alert.hidden = false;
+    notice(`This link opens no mission: ${why.message}.`);
     return null;
   }
 }
@@ -27,17 +23,15 @@ async function linked(alert) {
  * @param {import("./main.js").Page} page
  */
 export async function openFirst({ store, show }) {
-  const alert = element("p", { role: "alert", class: "alert", hidden: true });
-  document.querySelector("main")?.before(alert);
   /** @param {string} text */
   const open = (text) => store.write(text, "linked");
   window.addEventListener("hashchange", async () => {
-    const text = await linked(alert);
+    const text = await linked();
     if (text === null) return;
     show("flight-view");
     open(text);
   });
-  const text = await linked(alert);
+  const text = await linked();
   if (text === null) store.write(valueOf("missions")[FIRST], FIRST);
   else open(text);
 }

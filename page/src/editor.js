@@ -5,23 +5,10 @@ import "codemirror/addon/dialog/dialog.js";
 import "codemirror/addon/search/searchcursor.js";
 import "codemirror/addon/search/search.js";
 import { byId, element, prose } from "./elements.js";
+import { LINE_END, differing, positionOf } from "./positions.js";
 import { shownRefusal } from "./refusals.js";
 
 /** @typedef {import("./refusals.js").Shown} Shown */
-
-/**
- * The part in which two texts differ: where it begins, and where it ends in each.
- * @param {string} before
- * @param {string} after
- */
-export function differing(before, after) {
-  let start = 0;
-  const most = Math.min(before.length, after.length);
-  while (start < most && before[start] === after[start]) start += 1;
-  let same = 0;
-  while (same < most - start && before[before.length - 1 - same] === after[after.length - 1 - same]) same += 1;
-  return { start, end: before.length - same, text: after.slice(start, after.length - same) };
-}
 
 /** The editor with the marks of a refusal. */
 class Editor {
@@ -31,6 +18,7 @@ class Editor {
       mode: "toml", lineNumbers: true, lineWrapping: true, gutters: ["refusals", "CodeMirror-linenumbers"], inputStyle: "contenteditable", spellcheck: false,
       extraKeys: { Tab: false, "Shift-Tab": false }, screenReaderLabel: "The mission, a document of TOML",
     });
+    this.text = "";
     /** @type {CodeMirror.TextMarker | null} */
     this.mark = null;
     this.code.getInputField().setAttribute("aria-label", "The mission, a document of TOML");
@@ -38,9 +26,11 @@ class Editor {
 
   /** @param {string} text */
   show(text) {
+    this.text = text;
     const before = this.code.getValue();
-    if (before === text) return;
-    const part = differing(before, text);
+    const after = text.split(LINE_END).join("\n");
+    if (before === after) return;
+    const part = differing(before, after);
     this.code.replaceRange(part.text, this.code.posFromIndex(part.start), this.code.posFromIndex(part.end), "page");
   }
 
@@ -54,22 +44,22 @@ class Editor {
   refuse({ place, why }) {
     this.clear();
     if (!place) return;
-    const from = this.code.posFromIndex(place.start);
-    const to = this.code.posFromIndex(Math.max(place.end, place.start + 1));
+    const from = positionOf(this.text, place.start);
+    const to = positionOf(this.text, Math.max(place.end, place.start + 1));
     this.mark = this.code.markText(from, to, { className: "refused-here", attributes: { title: why } });
     this.code.setGutterMarker(from.line, "refusals", element("span", { class: "refusal-sign", title: why, role: "img", "aria-label": "refused here" }, "!"));
   }
 
   /** @param {number} start */
   go(start) {
-    this.code.setCursor(this.code.posFromIndex(start));
+    this.code.setCursor(positionOf(this.text, start));
     this.code.scrollIntoView(null, 80);
     this.code.focus();
   }
 
   /** @param {number} start */
   lineAndColumn(start) {
-    const { line, ch } = this.code.posFromIndex(start);
+    const { line, ch } = positionOf(this.text, start);
     return `line ${line + 1}, column ${ch + 1}`;
   }
 }
@@ -98,7 +88,9 @@ export function start(_section, { store }) {
   let fromPage = false;
 
   editor.code.on("change", () => {
-    if (!fromPage) store.write(editor.code.getValue());
+    if (fromPage) return;
+    editor.text = editor.code.getValue();
+    store.write(editor.text);
   });
 
   store.subscribe((state, changed) => {

@@ -67,3 +67,13 @@ export function byId(id) {
  * @returns {Child[]}
  */
 export const prose = (words) => words.split("`").map((part, place) => (place % 2 === 1 ? element("code", {}, part) : part));
+
+/**
+ * Tells the user something above all else, or takes back what was told.
+ * @param {string} words
+ */
+export function notice(words) {
+  const place = byId("notice");
+  place.textContent = words;
+  place.hidden = words === "";
+}

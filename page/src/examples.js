@@ -1,6 +1,6 @@
 /** The examples that one begins with, and a file of one's own. */
 import { valueOf } from "./data.js";
-import { byId, element } from "./elements.js";
+import { byId, element, notice } from "./elements.js";
 
 /**
  * Which examples come first, and what there is to see in each.
@@ -14,6 +14,18 @@ const FIRST = [
   ["shed_display", "a task is shed"],
   ["rudder", "placed tables"],
 ];
+
+/**
+ * The text of a file, or null where it isn't UTF-8.
+ * @param {ArrayBuffer} bytes
+ */
+function textOf(bytes) {
+  try {
+    return new TextDecoder("utf-8", { fatal: true, ignoreBOM: true }).decode(bytes);
+  } catch {
+    return null;
+  }
+}
 
 /**
  * @param {HTMLElement} section the list of examples
@@ -40,7 +52,9 @@ export function start(section, { store }) {
   open.addEventListener("change", async () => {
     const file = open.files?.[0];
     if (!file) return;
-    store.write(await file.text(), file.name.replace(/\.[^.]*$/, ""));
+    const text = textOf(await file.arrayBuffer());
+    notice(text === null ? `${file.name} isn't UTF-8, so it is no document.` : "");
+    if (text !== null) store.write(text, file.name.replace(/\.[^.]*$/, ""));
     open.value = "";
   });
 

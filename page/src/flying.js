@@ -20,8 +20,10 @@ export function keepFlying({ store, program }) {
     performance.mark("asked");
     const checked = await program.latest("check", ["check"], text);
     performance.mark("checked");
+    if (store.state.text !== text) return;
     if (checked.status !== 0) return store.update({ told: "refused", refusal: checked });
     const flown = await program.latest("run", ["run"], text);
+    if (store.state.text !== text) return;
     if (flown.status !== 0) return store.update({ told: "refused", refusal: flown });
     performance.mark("flown");
     const flight = readReport(flown.text);
