@@ -204,7 +204,10 @@ class FaultPanel {
     if (!stated) return;
     const { unit, say, storm } = stated;
     const outline = this.schedule?.outline ?? null;
-    const write = (/** @type {string} */ text) => this.put(text, "Taken out");
+    const write = (/** @type {string} */ text) => {
+      this.put(text, "Taken out");
+      this.unit.focus(); // the button is gone
+    };
     const items = (say ?? []).map((item, place) =>
       element("li", {}, itemWords(item, outline), " ", element("button", { type: "button", "aria-label": `take out: ${itemWords(item, outline)}`, onclick: () => write(withoutItem(this.store.state.text, unit, place)) }, "Take out")),
     );

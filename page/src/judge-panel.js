@@ -75,7 +75,7 @@ class JudgePanel {
       ...(status === 0 ? ["The mission may have this report: it keeps all that its reports promise."] : []),
       ...(frame === undefined ? [] : [`Frame ${frame} breaks rule ${rule}, and nothing before it breaks one. A report keeps by it: ${valueOf("judge")[Number(rule) - 1]}.`]),
       ...(number === undefined ? [] : [toldLine(report, Number(number))]),
-      ...(frame === undefined && number === undefined && status !== 0 ? ["The mission in the editor is refused, whatever the report is."] : []),
+      ...(frame === undefined && number === undefined && status !== 0 ? [toldStatus(status)] : []),
     ];
     this.verdict.className = `verdict ${status === 0 ? "yes" : "no"}`;
     this.verdict.replaceChildren(
@@ -102,6 +102,15 @@ class JudgePanel {
       if (!(why instanceof NoReport)) throw why;
     }
   }
+}
+
+/**
+ * Why nothing is said of the report.
+ * @param {number} status
+ */
+function toldStatus(status) {
+  if (status === 11) return "The document and the report have more than 8,388,608 bytes together, and no more are read.";
+  return status === 10 ? "There isn't enough memory to judge it." : "The mission in the editor is refused, whatever the report is.";
 }
 
 /**

@@ -75,14 +75,14 @@ class Chromium:
         """Types into a field, or hands a file's path over."""
         self.driver.find_element("css selector", selector).send_keys(text)
 
-    def saved(self, name, seconds=20):
-        """The bytes of a file that the page saves, which is taken away then."""
-        path = os.path.join(self.folder, name)
-        end = time.monotonic() + seconds
-        while not os.path.exists(path):
+    def saved(self, name, seconds=60):
+        """The bytes of a file that the page saves, when they are whole; it is taken away then."""
+        path, size, end = os.path.join(self.folder, name), -1, time.monotonic() + seconds
+        while size <= 0 or size != os.path.getsize(path):
             if time.monotonic() > end:
                 raise TimeoutError(f"{name} wasn't saved: {os.listdir(self.folder)}")
-            time.sleep(0.02)
+            size = os.path.getsize(path) if os.path.exists(path) else -1
+            time.sleep(0.03)
         with open(path, "rb") as file:
             told = file.read()
         os.remove(path)

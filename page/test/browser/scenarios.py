@@ -373,6 +373,70 @@ def everything_has_a_name(page, address, top):
     demand(page.run("return document.documentElement.lang === 'en' && document.querySelector('h1') !== null"), "the page has no language or no heading")
 
 
+VIEWS = ("flight-view", "schedule", "campaign", "judge", "corner", "take", "help")
+
+
+def narrow_windows_hold_it_all(page, address, top):
+    """No view is wider than a narrow window: what is wide scrolls in its own box."""
+    page.sized(360, 740, False)
+    try:
+        page.open(address)
+        flown(page)
+        show(page, "campaign")
+        swept(page)
+        for view in VIEWS:
+            show(page, view)
+            page.answer("await new Promise((resolve) => setTimeout(resolve, 60)); return 0;")
+            width = page.run("return document.scrollingElement.scrollWidth")
+            demand(width <= 360, f"{view} is {width} wide in a window of 360")
+    finally:
+        page.sized(1400, 900, False)
+
+
+CONTRASTS = r"""
+const channels = (colour) => (colour.match(/[\d.]+/g) ?? []).map(Number);
+const light = (rgb) => {
+  const [red, green, blue] = rgb.map((each) => { const part = each / 255; return part <= 0.04045 ? part / 12.92 : ((part + 0.055) / 1.055) ** 2.4; });
+  return 0.2126 * red + 0.7152 * green + 0.0722 * blue;
+};
+const ground = (it) => {
+  for (let each = it; each; each = each.parentElement) {
+    const [red, green, blue, opacity = 1] = channels(getComputedStyle(each).backgroundColor);
+    if (opacity > 0.9) return [red, green, blue];
+  }
+  return [255, 255, 255];
+};
+const found = new Map();
+for (const it of document.querySelectorAll("body *")) {
+  const own = [...it.childNodes].some((node) => node.nodeType === 3 && node.textContent.trim());
+  if (!own || it.closest("svg, template, script, style, option, [hidden], :disabled") || !it.checkVisibility()) continue;
+  const style = getComputedStyle(it);
+  const [one, other] = [light(channels(style.color)), light(ground(it))];
+  const ratio = (Math.max(one, other) + 0.05) / (Math.min(one, other) + 0.05);
+  if (ratio < 4.5) found.set(`${it.tagName.toLowerCase()}.${it.className} ${ratio.toFixed(1)}`, it.textContent.trim().slice(0, 30));
+}
+return [...found].map((each) => each.join(": "));
+"""
+
+
+def words_stand_out_in_light_and_dark(page, address, top):
+    """All words have a contrast of 4.5 to 1 and more to what is behind them."""
+    try:
+        for dark in (False, True):
+            page.sized(1400, 900, dark)
+            page.open(address)
+            flown(page)
+            show(page, "campaign")
+            swept(page)
+            swept(page)
+            for view in VIEWS:
+                show(page, view)
+                pale = page.run(CONTRASTS)
+                demand(not pale, f"in {'dark' if dark else 'light'} colours {view} has pale words: {pale}")
+    finally:
+        page.sized(1400, 900, False)
+
+
 # What is hostile.
 
 MARKUP = '<img src=x onerror="window.harmed=1"><script>window.harmed=1</script>'
@@ -426,6 +490,7 @@ def no_code_runs_by_the_policy(page, address, top):
 def a_link_opens_to_the_same_flight(page, address, top):
     page.open(address)
     flown(page)
+    other = wait(page, "return document.getElementById('link').value")
     opened(page, "mine.toml", read(f"{top}/missions/shed_display.toml") + "# \u00e9 \U0001f680 mine\n")
     text, report = text_of(page), page.run(REPORT)
     wait(page, "return document.getElementById('link').value.includes('#document=')")
@@ -433,16 +498,27 @@ def a_link_opens_to_the_same_flight(page, address, top):
     page.open(link)
     flown(page)
     demand((text_of(page), page.run(REPORT)) == (text, report), "the link opens another flight")
+    page.run("location.hash = '#document=none'")
+    wait(page, "return !document.querySelector('.alert').hidden", what="a link that is no link says so")
+    page.run("location.hash = arguments[0].split('#')[1]", other)
+    wait(page, "return document.querySelector('.alert').hidden", what="another link opens in the same page")
+    flown(page)
+    demand(text_of(page) == read(f"{top}/missions/first_5_liar.toml"), "another link opens another document")
     page.open(link[:-20])
     flown(page)
     demand("was cut off or changed" in page.run("return document.querySelector('.alert').textContent"), "it isn't said that a link was cut off")
     demand(text_of(page) == read(f"{top}/missions/first_5_liar.toml"), "the first example isn't opened behind a link that was cut off")
 
 
-def a_picture_is_taken_away(page, address, top):
+def a_picture_and_a_campaign_are_taken_away(page, address, top):
     page.open(address)
     flown(page)
+    show(page, "campaign")
+    swept(page)
     show(page, "take")
+    wait(page, "return !document.querySelector('#take .row:nth-of-type(4) button').disabled", what="the campaign can be taken away")
+    page.click("#take .row:nth-of-type(4) button")
+    demand(page.saved("first_5_liar.tsv").decode() == judged(read(f"{top}/cases/sweeps/first_5_liar.tsv")), "another campaign is taken away")
     page.click("#take .row:nth-of-type(3) button")
     picture = page.saved("first_5_liar.svg").decode()
     demand(picture.startswith("<svg") and "var(" not in picture and "5 units, 6 frames" in picture, "the picture isn't whole")
@@ -519,8 +595,10 @@ SCENARIOS = [
     a_thousand_frames_are_drawn_and_scrolled,
     all_is_done_by_keys,
     everything_has_a_name,
+    narrow_windows_hold_it_all,
+    words_stand_out_in_light_and_dark,
     a_link_opens_to_the_same_flight,
-    a_picture_is_taken_away,
+    a_picture_and_a_campaign_are_taken_away,
     a_report_is_judged,
     the_laboratories_answer,
     no_complaint_is_left,
