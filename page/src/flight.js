@@ -12,19 +12,17 @@ const WIDEST = 110;
 const CLOSEST = 6;
 const LABELS = 104;
 
-let drawings = 0;
-
 /** A drawing of a flight in an element. Of a long one only the frames that are seen, and some beside them, are elements. */
 export class FlightDrawing {
   /**
    * @param {HTMLElement} host
    * @param {(frame: number, unit: number | null) => void} [onchoose] what is called where a frame is opened
    * @param {string} [label] what the drawing is called
+   * @param {string} [id] what the ids of its cells begin with
    */
-  constructor(host, onchoose = () => {}, label = "The flight: units by frames") {
+  constructor(host, onchoose = () => {}, label = "The flight: units by frames", id = "cell") {
     this.onchoose = onchoose;
-    drawings += 1;
-    this.id = `cell-${drawings}`;
+    this.id = id;
     /** @type {Flight | null} */
     this.flight = null;
     /** @type {Mark[]} */

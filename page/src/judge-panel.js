@@ -95,7 +95,7 @@ class JudgePanel {
     this.host.replaceChildren();
     try {
       const flight = readReport(report);
-      const drawing = new FlightDrawing(this.host, () => {}, "The judged report: units by frames");
+      const drawing = new FlightDrawing(this.host, () => {}, "The judged report: units by frames", "judged");
       const last = flight.frames.length - 1;
       drawing.show(flight, marks.map((mark) => ({ ...mark, frame: Math.min(mark.frame, last) })), Math.min(frame, last), null);
     } catch (why) {
