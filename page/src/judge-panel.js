@@ -2,7 +2,7 @@
 import { DIVIDER } from "./campaign.js";
 import { valueOf } from "./data.js";
 import { element } from "./elements.js";
-import { FlightDrawing } from "./flight.js";
+import { FlightDrawing } from "./flight-drawing.js";
 import { NoReport, readReport } from "./report.js";
 import { placesOf } from "./verdicts.js";
 
