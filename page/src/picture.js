@@ -242,7 +242,7 @@ class Picture {
     const words = String(value);
     const step = Math.ceil(AGAIN / this.view.cell);
     const places = Array.from({ length: last - first + 1 }, (_, place) => first + place).filter((number) => number === first || (this.view.partly && number % step === 0));
-    const room = wide * words.length + 6;
+    const room = wide * words.length + 4;
     return places
       .filter((number, place) => ((places[place + 1] ?? last + 1) - number) * this.view.cell >= room)
       .map((number) => drawn("text", { class: kind, x: this.x(number) + 3, y }, words));
