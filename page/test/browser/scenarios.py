@@ -36,6 +36,15 @@ def in_time(what, milliseconds, most):
     return f"{what} {milliseconds:.0f} ms"
 
 
+def cell(unit, frame):
+    """What the drawing has of a unit in a frame, as an expression."""
+    return f"document.querySelector('#flight [aria-rowindex=\"{unit + 1}\"] [aria-colindex=\"{frame + 1}\"]')"
+
+
+def looks(unit, frame, look):
+    return f"{cell(unit, frame)}?.getAttribute('class') === '{look}'"
+
+
 def text_of(page):
     return page.run(f"return {EDITOR}.getValue()")
 
@@ -151,21 +160,20 @@ def a_fault_is_clicked(page, address, top):
     page.open(address)
     flown(page)
     before = text_of(page)
-    cell = page.run("const box = document.getElementById('cell-3-1').getBoundingClientRect(); return [box.x + box.width / 2, box.y + box.height / 2]")
-    page.run("document.elementFromPoint(...arguments[0]).dispatchEvent(new MouseEvent('click', {bubbles: true, clientX: arguments[0][0], clientY: arguments[0][1]}))", cell)
+    page.click('#flight [aria-rowindex="4"] [aria-colindex="2"]')
     demand(page.run("return document.querySelector('#fault select[name=unit]').value") == "3", "the panel has another unit")
-    demand(page.run("return document.getElementById('cell-3-1').getAttribute('class')") == "works", "unit 3 doesn't work before")
+    demand(page.run(f"return {looks(3, 1, 'works')}"), "unit 3 doesn't work before")
     page.run("const slot = document.querySelector('#fault select[name=slot]'); slot.value = 'out elevator.0'; slot.dispatchEvent(new Event('change', {bubbles: true}))")
-    took = page.answer("""
+    took = page.answer(f"""
       const began = performance.now();
       document.querySelector("#fault button[type=submit]").click();
-      while (document.getElementById("cell-3-1")?.getAttribute("class") !== "faulty") await new Promise((resolve) => setTimeout(resolve, 5));
+      while (!({looks(3, 1, "faulty")})) await new Promise((resolve) => setTimeout(resolve, 5));
       return performance.now() - began;
     """)
     added = '\n[[fault]]\nunit = 3\nfrom = 1\n\n[[fault.say]]\nslot = "out"\nindex = 1\nword = 0\nto = "0124"\nvalue = 999\n'
     demand(text_of(page) == before + added, f"the document is another one: {text_of(page)[len(before):]}")
     page.click("#fault .stated > p button")
-    wait(page, "return document.getElementById('cell-3-1').getAttribute('class') === 'works'", what="unit 3 works again")
+    wait(page, f"return {looks(3, 1, 'works')}", what="unit 3 works again")
     demand(text_of(page) == before, "the document isn't what it was")
     return in_time("the flight with the fault", took, LONGEST_FAULT)
 
@@ -176,7 +184,7 @@ def a_unit_turns_stray(page, address, top):
     page.run("document.querySelector('#fault input[value=storm]').click()")
     page.click("#fault button[type=submit]")
     frame = page.run("return document.querySelector('#fault input[type=number]').value")
-    wait(page, f"return document.getElementById('cell-0-{frame}').getAttribute('class') === 'faulty'", what="unit 0 is faulty")
+    wait(page, f"return {looks(0, int(frame), 'faulty')}", what="unit 0 is faulty")
     demand(f"unit = 0\nfrom = {frame}\n\n[fault.storm]\nnumber = 1\nstrays = 100000\n" in text_of(page), "there is no storm in the document")
 
 
@@ -299,7 +307,7 @@ def a_thousand_frames_are_drawn_and_scrolled(page, address, top):
       return gaps.sort((one, other) => one - other);
     """)
     demand(not isinstance(gaps, dict), str(gaps))
-    demand(page.run("return document.getElementById('cell-7-999') !== null"), "the last frame isn't drawn at the end")
+    demand(page.run(f"return {cell(7, 999)} !== null"), "the last frame isn't drawn at the end")
     middle, worst = gaps[len(gaps) // 2], gaps[-3]
     in_time("a step of scrolling, in the middle,", middle, 34)
     return f"{in_time('reading and drawing', drawing, LONGEST_DRAWING)}; flown in {told['milliseconds']:.0f} ms; a step of scrolling {middle:.0f} ms, and of the slowest {worst:.0f}"
@@ -344,7 +352,7 @@ def all_is_done_by_keys(page, address, top):
     demand(page.run("return document.querySelector('#fault select[name=unit]').value") == "1", "arrow keys choose no unit")
     tabbed(page, "Write it into")
     page.keys(Keys.ENTER)
-    wait(page, "return document.getElementById('cell-1-0').getAttribute('class') === 'faulty'", what="the fault by keys is flown")
+    wait(page, f"return {looks(1, 0, 'faulty')}", what="the fault by keys is flown")
     page.run("document.getElementById('flight-view-tab').focus()")
     page.keys(Keys.ARROW_RIGHT, Keys.ARROW_RIGHT)
     demand(page.run("return !document.getElementById('campaign').hidden"), "arrow keys don't open a view")
