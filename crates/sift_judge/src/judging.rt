@@ -30,6 +30,8 @@ pub enum Verdict {
     No { frame: u32, rule: u8 },
 }
 
+// ---- the judge
+
 /// Judges the lines of a report of a mission, without a flight. It takes no memory.
 pub fn judge(mission: &Mission, lines: &[ReportLine]) -> Verdict
     ensures { IsVerdict (data_of mission.now) lines.now result }
