@@ -56,8 +56,7 @@ class Cell:
     def told(self):
         """What became of it, in words."""
         wrong = counted(self.row.wrong, "wrong word", "wrong words")
-        known = "promised" if self.promised else "only seen"
-        return f"{self.fate} ({known}), {wrong} in the run, row {self.row.number}"
+        return f"{self.fate}, {wrong} in the run, row {self.row.number}" + (", promised" if self.promised else "")
 
 
 class Table:
@@ -113,7 +112,7 @@ def key_lines(table):
         if fate in seen:
             yield fate, f"{letter or '1'}  {told}"
     if any(cell.promised for cell in table.cells.values()):
-        yield PROMISED, "!  behind it: promised, out in the next frame or never caught; all else was only seen"
+        yield PROMISED, "!  promised: out in the next frame, or never caught; all else was only seen"
     if any(cell.wrong for cell in table.cells.values()):
         yield None, "*  behind it: an output was lost (a unit voted another word than `ideal` has)"
 
