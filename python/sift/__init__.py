@@ -1,0 +1,1 @@
+"""The SIFT computer's simulator `sift`, for Python."""

@@ -1,0 +1,1 @@
+"""Campaigns: a mission flown with one fault after the other."""

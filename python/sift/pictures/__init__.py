@@ -1,0 +1,1 @@
+"""Pictures of flights, schedules, campaigns and times."""

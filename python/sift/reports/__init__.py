@@ -1,0 +1,1 @@
+"""Reports: what their lines say."""

@@ -1,0 +1,1 @@
+"""The tools beside the program, each a module with a `main` for its words."""
