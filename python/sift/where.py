@@ -20,6 +20,31 @@ def program():
     return shutil.which("sift") or BUILT
 
 
+def library():
+    """The built library: the one that SIFT_LIBRARY names, or ours; or None. A program that is named, or that was built of other
+    sources since, counts in place of ours."""
+    named = os.environ.get("SIFT_LIBRARY")
+    ours = os.path.join(HOME, "out", "libsift.so")
+    if named or os.environ.get("SIFT_PROGRAM") or not os.path.exists(ours) or is_older(ours):
+        return named
+    return ours
+
+
+def is_older(path):
+    """Whether our library was built before the program, and of other sources."""
+    made_of = [noted(os.path.join(HOME, "out", name)) for name in ("library.sources", "sift.sources")]
+    return os.path.exists(BUILT) and made_of[0] != made_of[1] and os.path.getmtime(path) < os.path.getmtime(BUILT)
+
+
+def noted(path):
+    """What a file has, where it is there."""
+    try:
+        with open(path, encoding="utf-8") as file:
+            return file.read()
+    except OSError:
+        return None
+
+
 def launcher():
     """What runs the program, built or not."""
     return os.path.join(TOP, "sift") if IN_PLACE else program()

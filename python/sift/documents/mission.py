@@ -1,5 +1,6 @@
 """A mission as a document with places states it, and what its rules yield."""
 from dataclasses import dataclass
+from typing import Optional
 
 from sift.documents import texts
 
@@ -25,7 +26,7 @@ class Broken:
     start: int
     end: int
     why: str
-    mend: str = None
+    mend: Optional[str] = None
     several: bool = False  # whether it shows only where several values are compared
 
 

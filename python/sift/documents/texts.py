@@ -6,6 +6,7 @@ import difflib
 import re
 import sys
 from dataclasses import dataclass, field
+from typing import Optional
 
 KEYWORDS = ("let", "out", "if", "else", "repeat", "mid", "sense", "now", "last")
 LONGEST_TEXT, LONGEST_NAME, LARGEST_WORD, MOST_ROUNDS, MOST_LOCALS, DEEPEST = 4096, 16, 65535, 1024, 32, 32
@@ -207,8 +208,8 @@ class Parser:
     at: int = 0
     locals: list = field(default_factory=list)
     open: int = 0
-    token: Token = None
-    before: Token = None
+    token: Optional[Token] = None
+    before: Optional[Token] = None
 
     # Tokens.
 

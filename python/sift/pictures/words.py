@@ -38,6 +38,16 @@ class Series:
         return f"{self.name}: first differs in frame {first}: {', '.join(map(str, words))}, and not {self.due[first]}; in {frames}{rest}"
 
 
+def series_of(named, names, flight, text):
+    """The chosen words of a flight, and those that are due by the text of the ideal machine."""
+    due = list(named.ideal(text, flight))
+    for name in names:
+        place = named.words().index(name)
+        of_units = [[named.told(frame, unit)[place] for unit in range(flight.units)] for frame in flight.frames]
+        held = [any(name in named.shed(frame, unit) for unit in range(flight.units)) for frame in flight.frames]
+        yield Series(name, of_units, [words[place] for words in due], held)
+
+
 class Panel:
     """Where a series stands in the drawing."""
 

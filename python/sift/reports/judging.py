@@ -1,7 +1,5 @@
 """Asks the program what it says of a report."""
-import os
-import subprocess
-
+from sift import callers
 from sift.campaigns.flyer import DIVIDER
 
 
@@ -16,9 +14,11 @@ def joined(document, report):
 
 def judged(program, document, report, version=None):
     """The line of the judge: `yes`, or what the report breaks. A report of both versions needs no version."""
-    words = ["--report", str(version)] if version == 1 else []
-    quiet = {**os.environ, "SIFT_OFFERS": "no"}
-    answer = subprocess.run([program, "judge", *words], input=joined(document, report.replace(b"\r\n", b"\n")), stdout=subprocess.PIPE, stderr=subprocess.DEVNULL, env=quiet, check=False)
-    if answer.returncode not in (0, 12, 13):
-        raise NotJudged(f"{program} judge ends with status {answer.returncode}")
-    return answer.stdout.decode(errors="replace").strip()
+    words = ["judge", *(["--report", str(version)] if version == 1 else [])]
+    try:
+        status, text = callers.Program(program).answer(words, joined(document, report.replace(b"\r\n", b"\n")))
+    except (callers.NotAnswered, MemoryError) as fault:
+        raise NotJudged(str(fault)) from None
+    if status not in (0, 12, 13):
+        raise NotJudged(f"{program} judge ends with status {status}")
+    return text.decode(errors="replace").strip()

@@ -1,7 +1,10 @@
 """Reads a report of `sift run`, of either version, and tells what its lines say. No flight is computed."""
+from __future__ import annotations
+
 import itertools
 import re
 from functools import lru_cache
+from typing import Any, Dict, FrozenSet, Iterator, List, Mapping, Optional, Sequence, Set, Tuple
 
 NUMBER = "(0|[1-9][0-9]*)"
 WORDS_LISTED = "(-|[0-9a-f]{4}(?:,[0-9a-f]{4})*)"
@@ -31,29 +34,33 @@ class NoReport(Exception):
 class Frame:
     """What the lines of one frame say. It is the same object for the same lines, and isn't changed."""
 
-    def __init__(self, units, figures):
-        told = [list(values) for values in zip(*units)] or [[]] * 6
+    def __init__(self, units: Sequence[Sequence[Any]], figures: Tuple[Optional[int], Optional[int], bool]) -> None:
+        told: List[List[Any]] = [list(values) for values in zip(*units)] or [[]] * 6
         # Of each unit: "works", "faulty" or "idle"; and else None, the units of its cfg, its clk, and the words of its in and out.
-        self.states, self.configurations, self.clocks, self.inputs, self.outputs = told[:5]
-        self.catches = told[5]  # of each unit: the units of its bad, with the letters of the kinds; none in version 1
+        self.states: List[str] = told[0]
+        self.configurations: List[Optional[Tuple[int, ...]]] = told[1]
+        self.clocks: List[Optional[int]] = told[2]
+        self.inputs: List[Optional[Tuple[int, ...]]] = told[3]
+        self.outputs: List[Optional[Tuple[int, ...]]] = told[4]
+        self.catches: List[Dict[int, str]] = told[5]  # of each unit: the units of its bad, with the letters of the kinds; none in version 1
         self.skew, self.slack, self.margin = figures
         # The configuration of the lowest unit that tells one, or None; the units that some unit caught; the versions in which
         # they are told; the greatest unit that is named; and the words of the outs, each once.
         self.configuration = next(filter(None, self.configurations), None)
-        self.caught = frozenset().union(*self.catches)
+        self.caught: FrozenSet[int] = frozenset().union(*self.catches)
         self.versions = {unit: 2 if any(caught.values()) else 1 for unit, caught in enumerate(self.catches) if caught}
         self.greatest = max(self.caught.union(*filter(None, self.configurations)), default=0)
         self.votes = frozenset(self.outputs) - {None}
 
-    def split(self):
+    def split(self) -> bool:
         """Whether two units tell different configurations."""
         return len({told for told in self.configurations if told is not None}) > 1
 
-    def caught_by(self, unit):
+    def caught_by(self, unit: int) -> List[int]:
         """The units that caught this one in the frame."""
         return [by for by, caught in enumerate(self.catches) if unit in caught]
 
-    def without_kinds(self):
+    def without_kinds(self) -> Frame:
         """What version 1 tells of the frame."""
         units = zip(self.states, self.configurations, self.clocks, self.inputs, self.outputs, self.catches)
         plain = [(*told, dict.fromkeys(caught, "")) for *told, caught in units]
@@ -63,28 +70,28 @@ class Frame:
 class Flight:
     """A report as it was read."""
 
-    def __init__(self, frames, last):
+    def __init__(self, frames: List[Frame], last: Tuple[int, ...]) -> None:
         self.frames = frames
         self.last = last  # the configuration after the last frame
         self.units = len(frames[0].states)
 
-    def version(self):
+    def version(self) -> Optional[int]:
         """The version of the report, or None where nobody was caught, so that it is one of both."""
         return next((version for frame in self.frames for version in frame.versions.values()), None)
 
-    def without_kinds(self):
+    def without_kinds(self) -> Flight:
         """What version 1 tells of the flight."""
         return Flight([frame.without_kinds() for frame in self.frames], self.last)
 
-    def held(self, tables):
+    def held(self, tables: Mapping[int, Sequence[int]]) -> Iterator[Set[int]]:
         """Of each frame the tasks whose words may differ from the ideal machine's since a table sheds tasks, in it or in one
         before it, where it is told of each size which tasks these are."""
-        held = set()
+        held: Set[int] = set()
         for frame in self.frames:
             held = held.union(*(tables.get(len(units), ()) for units in frame.configurations if units))
             yield held
 
-    def configurations(self):
+    def configurations(self) -> List[Tuple[int, ...]]:
         """The configuration of each frame and after the last; where no unit tells one, the next that is told."""
         told = [self.last]
         for frame in reversed(self.frames):
@@ -257,10 +264,11 @@ def blanked_stretch_of(text, *before):
     return stretch_of(text, *before)
 
 
-def read_report(text, stretch=stretch_of):
+def read_report(text: str, stretch: Any = stretch_of) -> Flight:
     """The flight that a report tells; with `blanked_stretch_of` without what the clocks show, and sooner."""
     text = whole_lines(text)
-    frames, place, last, count, version = [], 0, None, None, None
+    frames: List[Frame] = []
+    place, last, count, version = 0, None, None, None
     try:
         for part in stretches(text):
             told, last, count, version = stretch(part, len(frames), count, version)
@@ -273,16 +281,18 @@ def read_report(text, stretch=stretch_of):
     return Flight(frames, last)
 
 
-def read_ideal(text):
+def read_ideal(text: str) -> List[Tuple[int, ...]]:
     """Of each frame the output words of the ideal machine, from the text of `sift ideal`."""
     lines = lines_of(whole_lines(text))
-    frames = [IDEAL.fullmatch(line) for line in lines[:-1]]
-    for number, found in enumerate(frames):
+    frames = []
+    for number, line in enumerate(lines[:-1]):
+        found = IDEAL.fullmatch(line)
         if not found or int(found[1]) != number:
             raise NoReport(f"line {number + 1}: a line of frame {number} is due")
+        frames.append(words_of(found[2]))
     if not frames or lines[-1] != f"end frames={len(frames)}":
         raise NoReport(f"line {len(lines)}: the line of the mission's end is missing")
-    return [words_of(found[2]) for found in frames]
+    return frames
 
 
 # Units, frames and stretches of them in words.

@@ -1,4 +1,5 @@
 """A mission as the tools take it: what is refused they don't look at."""
+from sift import callers
 from sift.documents import places
 from sift.documents.mission import Mission
 from sift.documents.printing import text_of
@@ -10,16 +11,31 @@ class Refused(Exception):
     """The line that a document gets in place of a mission."""
 
 
-def load(raw, steps=STEPS):
-    """The text, the root table and the mission of a document's bytes, which is tested by some steps of the rules."""
+def load(raw, steps=None):
+    """The text, the root table and the mission of a document's bytes. Whether it is refused the program tells where it is built, and
+    else the rules; they alone where some of their steps are named."""
+    line = None if steps else program_refuses(raw)
     try:
         text, root = places.read(raw)
     except places.NotADocument:
-        raise Refused("not a document") from None
-    refused = next(iter(refusals(root, steps)), None)
-    if refused:
-        raise Refused(refused.line)
+        raise Refused(line or "not a document") from None
+    if line is None:
+        line = next((broken.line for broken in refusals(root, steps or STEPS)), "")
+    if line:
+        raise Refused(line)
     return text, root, Mission(root)
+
+
+def program_refuses(raw):
+    """The line by which the program refuses a document, nothing where it is a mission, or None where no program is built."""
+    caller = callers.built()
+    if not caller:
+        return None
+    try:
+        status, text = caller.answer(["check"], raw)
+    except (callers.NotAnswered, MemoryError):
+        return None
+    return text.decode(errors="replace").rstrip("\n") if status else ""
 
 
 def without_faults(root):

@@ -1,8 +1,8 @@
 """The rules of missions, over a document with places: what a document breaks, where, and why.
 
 They are written once more from docs/, beside the proved program, which alone decides what is refused: tools/explain takes
-the program's line, and finds here the place that it speaks of. `tools/test-explain` compares both on every document of
-cases/.
+the program's line, and finds here the place that it speaks of. `python/tests/test_explain.py` compares both on every
+document of cases/.
 """
 from sift.documents.mission import Mission
 from sift.rules.scenario import broken_rules, later_rules

@@ -15,146 +15,14 @@ stands beside the proved program: what is refused, and by which rule, the progra
 refusal with an example, docs/judge.md the rules of reports, docs/byz.md those of plans.
 """
 import os
-import re
 import subprocess
 import sys
 
 from sift import where
-from sift.documents import places, texts
-from sift.documents.mission import Mission
-from sift.documents.show import lines_of, shown
 from sift.files import as_called, read_source, run
 from sift.reports.judging import joined
 from sift.reports.reading import read_ideal
-from sift.rules import pages, plans, refusals, verdicts
-
-LARGEST = 1_048_576
-MOST_OTHERS = 5
-NO_ROOM = re.compile(r"no room (\d) task (\d+)")
-READERS = (
-    "sift reads TOML 1.1, and readers differ: some take integers of more than 64 bits, and some refuse new lines and a last"
-    " comma in `{ }`, or a byte order mark"
-)
-
-
-def not_a_document(name, raw):
-    """Where a document is none."""
-    try:
-        places.read(raw)
-    except places.NotADocument as fault:
-        text = raw.decode(errors="replace")
-        return shown(name, text, fault.place, fault.end, fault.why, [("mend", fault.mend), ("note", READERS)])
-    head = f"{name}: this tool's reader takes it for a document, and finds no place; the program decides\n"
-    return head + lines_of([("note", READERS)])
-
-
-def too_long(name, raw):
-    """Where a document is cut off."""
-    line = raw[:LARGEST].count(b"\n") + 1
-    column = LARGEST - (raw.rfind(b"\n", 0, LARGEST) + 1) + 1
-    return (
-        f"{name}:{line}:{column}: here stands byte {LARGEST + 1:,}, and a document has at most {LARGEST:,} bytes\n"
-        + lines_of([("mend", "see that the right file is read; shorten its comments")])
-    )
-
-
-def refused(name, raw, line):
-    """Where a document breaks the rule that a line tells."""
-    sort, rule = pages.sort_and_rule(line)
-    general = [("rule", pages.sentence(sort, rule)), ("mend", pages.mend(sort, rule))]
-    text, root = places.read(raw)
-    broken = next((each for each in refusals.refusals(root) if each.line == line), None)
-    if broken is None:
-        return f"{name}: this tool finds no place for it; the program decides\n" + lines_of(general)
-    told = [("mend", broken.mend)] if broken.mend else general
-    return shown(name, text, broken.start, broken.end, broken.why, told, root) + others(text, root, broken)
-
-
-def others(text, root, first):
-    """What else is broken: the program answers the first refusal alone, and so this is the tool's own reading."""
-    found = refusals.others(root, first)
-    lines = []
-    for broken in found[:MOST_OTHERS]:
-        line, column = places.line_and_column(text, broken.start)
-        lines.append(("also", f"{line}:{column}: {broken.why}" + (f"; mend: {broken.mend}" if broken.mend else "")))
-    if len(found) > MOST_OTHERS:
-        lines.append(("also", f"{len(found) - MOST_OTHERS} places more"))
-    if lines:
-        lines.append(("note", "the program tells the first refusal alone; what stands behind `also` is this tool's own reading"))
-    return lines_of(lines)
-
-
-def explanation(name, raw, line):
-    """What is to be said of the line that the program wrote."""
-    if line == "not a document":
-        return not_a_document(name, raw)
-    if line == "too long":
-        return too_long(name, raw)
-    return refused(name, raw, line) if pages.sort_and_rule(line) else ""
-
-
-def of_report(name, document, report, line, program):
-    """What is to be said of the line that the judge wrote of a report."""
-    if line == "yes" or not (verdicts.VERDICT.fullmatch(line) or verdicts.NO_LINE.fullmatch(line)):
-        return ""
-    text = report.decode(errors="replace").replace("\r\n", "\n")
-    mission = Mission(places.read(document)[1])
-    found = verdicts.found_in(mission, text, line, lambda raw: read_ideal(asked(program, ["ideal"], raw)[1].decode())[0])
-    verdict = verdicts.VERDICT.fullmatch(line)
-    told = [("rule", f"{verdict[2]}: {verdicts.sentence(int(verdict[2]))}")] if verdict else []
-    if not found:
-        return f"{name}: this tool finds no place for it; the program decides\n" + lines_of(told)
-    first, *rest = found
-    more = [("also", f"{each.line}: {each.why}") for each in rest[:MOST_OTHERS]]
-    more += [("also", f"{len(rest) - MOST_OTHERS} places more")] if len(rest) > MOST_OTHERS else []
-    return shown(name, text, *span_of(text, first), first.why, more + told)
-
-
-def span_of(text, found):
-    """The start and the end of what is looked at in a line of a report."""
-    lines = text.split("\n")
-    number = min(found.line, len(lines))
-    begin = sum(len(line) + 1 for line in lines[: number - 1])
-    part = re.search(rf"(?<= ){found.part}(=\S*)?", lines[number - 1]) if found.part else None
-    return (begin + part.start(), begin + part.end()) if part else (begin, begin + max(1, len(lines[number - 1])))
-
-
-def of_plan(name, raw, line):
-    """What is to be said of the line that the program wrote of a plan of lies."""
-    if line == "not a document":
-        return not_a_document(name, raw)
-    if line == "too long":
-        return too_long(name, raw)
-    if not plans.REFUSAL.fullmatch(line):
-        return ""
-    text, root = places.read(raw)
-    rule = ("rule", plans.sentence(line))
-    broken = next(iter(plans.refusals(root)), None)
-    if broken is None or broken.line != line:
-        return f"{name}: this tool finds no place for it; the program decides\n" + lines_of([rule])
-    return shown(name, text, broken.start, broken.end, broken.why, [("mend", broken.mend)] if broken.mend else [rule], root)
-
-
-def of_room(name, raw, line, copies, subframes):
-    """What is to be said of the line that the planner wrote of a mission."""
-    found = NO_ROOM.fullmatch(line)
-    if not found:
-        return explanation(name, raw, line)
-    size, number = map(int, found.groups())
-    text, root = places.read(raw)
-    mission = Mission(root)
-    task = mission.tasks[number]
-    read = {part.task for part in texts.parts_of(mission.statements(number)) if isinstance(part, texts.Read) and part.now}
-    names = ", ".join(mission.tasks[other].get("name").data for other in sorted(read))
-    behind = f" behind the polls of {names}, which it reads by `now`," if names else ""
-    runs = min(copies, size)
-    why = (
-        f"with {size} units there is no subframe from 4 to {subframes - 8} in which {task.get('name').data},{behind} finds {runs} free positions:"
-        f" it would be polled two later, and the reports are said in {subframes - 6}"
-    )
-    enough = 10 + 2 * len(mission.tasks)
-    told = [("mend", f"more subframes, of which {enough} are always enough for {len(mission.tasks)} tasks; fewer copies; or another order of the tasks")]
-    return shown(name, text, task.start, task.end, why, told, root)
+from sift.rules import explaining, verdicts
 
 
 def asked(program, words, raw):
@@ -177,9 +45,14 @@ def explain_room(copies, subframes, name, program=None):
     sys.stdout.buffer.write(answer)
     sys.stdout.flush()
     if status:
-        shown_name = "standard input" if name == "-" else name
-        sys.stderr.write(of_room(shown_name, raw, answer.decode(errors="replace").rstrip("\n"), int(copies), int(subframes)))
+        tell(name, explaining.of_room(raw, answer.decode(errors="replace").rstrip("\n"), int(copies), int(subframes)))
     return status
+
+
+def tell(name, explained):
+    """Writes what is to be said of a file, if anything."""
+    if explained:
+        sys.stderr.write(explained.shown("standard input" if name == "-" else name))
 
 
 def main(words):
@@ -196,7 +69,6 @@ def main(words):
         print(as_called(__doc__.split("\n\n")[1]), file=sys.stderr)
         return 125
     raw = read_source(files[0])
-    name = "standard input" if files[-1] == "-" else files[-1]
     if of_lies:
         status, answer = asked(program, ["byz"], raw)
     elif files[1:]:
@@ -209,12 +81,12 @@ def main(words):
     sys.stdout.flush()
     line = answer.decode(errors="replace").rstrip("\n")
     if of_lies:
-        told = of_plan(name, raw, line) if status else ""
+        tell(files[0], explaining.of_plan(raw, line) if status else None)
     elif files[1:] and status in (0, 12, 13):
-        told = of_report(name, raw, report, line, program)
+        ideal = lambda document: read_ideal(asked(program, ["ideal"], document)[1].decode())[0]
+        tell(files[1], explaining.of_report(raw, report, line, ideal))
     else:
-        told = explanation("standard input" if files[0] == "-" else files[0], raw, line)
-    sys.stderr.write(told)
+        tell(files[0], explaining.of_mission(raw, line))
     return status
 
 

@@ -25,10 +25,11 @@ from sift import where
 from sift.campaigns.kits import can_fly
 from sift.rules.loading import Refused, load, refusal
 from sift.files import as_called, read_source, run
-from sift.pictures.words import Series, svg_of
+from sift.pictures.words import series_of, svg_of
 from sift.reports.judging import NotJudged, judged
 from sift.reports.named import Named
 from sift.reports.reading import NoReport, read_report
+from sift.reports.table import columns_of, rows_of
 
 USAGE = "\n".join(__doc__.split("\n\n")[1].splitlines())
 
@@ -62,21 +63,6 @@ class Options:
         return kinds < 2 and not unknown and len(self.files) in ((1,) if self.only_names else (2, 3))
 
 
-def columns_of(named):
-    """The columns, in their order."""
-    return ["f", "u", *named.words(), "skew", "slack", "margin", *(["shed"] if named.sheds() else [])]
-
-
-def rows_of(named, flight):
-    """The rows, each a list of values in the order of the columns."""
-    sheds = named.sheds()
-    for number, frame in enumerate(flight.frames):
-        for unit in range(flight.units):
-            margin = "ok" if frame.margin else "lost"
-            shed = [named.shed(frame, unit)] if sheds else []
-            yield [number, unit, *named.told(frame, unit), frame.skew, frame.slack, margin, *shed]
-
-
 def write_rows(named, flight, as_json):
     columns = columns_of(named)
     if as_json:
@@ -87,16 +73,6 @@ def write_rows(named, flight, as_json):
     writer.writerow(columns)
     for row in rows_of(named, flight):
         writer.writerow([" ".join(cell) if isinstance(cell, list) else cell for cell in row])
-
-
-def series_of(named, names, flight, text):
-    """The chosen words of a flight, and those that are due by the text of the ideal machine."""
-    due = list(named.ideal(text, flight))
-    for name in names:
-        place = named.words().index(name)
-        of_units = [[named.told(frame, unit)[place] for unit in range(flight.units)] for frame in flight.frames]
-        held = [any(name in named.shed(frame, unit) for unit in range(flight.units)) for frame in flight.frames]
-        yield Series(name, of_units, [words[place] for words in due], held)
 
 
 def ideal_text(raw, program):

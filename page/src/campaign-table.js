@@ -1,0 +1,95 @@
+/** The table of a campaign: slots by units, for each way of lying, each cell a link to the flight of its worst run. */
+import { LOOKS, changeOf } from "./cells.js";
+import { element } from "./elements.js";
+
+/** @typedef {import("./cells.js").Cell} Cell */
+/** @typedef {import("./cells.js").Look} Look */
+/** @typedef {import("./cells.js").Table} Table */
+
+/**
+ * The signs of changes, which no colour is needed to tell apart.
+ * @type {Record<import("./cells.js").Change, [string, string]>}
+ */
+export const CHANGES = {
+  better: ["▼", "better"],
+  worse: ["▲", "worse"],
+  same: ["", "as before"],
+  new: ["+", "only here"],
+  gone: ["−", "only before"],
+};
+
+/** @param {Look} look */
+const classOf = (look) => `end-${look.replaceAll(" ", "-")}`;
+
+/**
+ * A cell: its mark, which opens its flight; and before it, where campaigns are compared and it differs, the mark of before.
+ * @param {string} where in words
+ * @param {Cell | undefined} cell
+ * @param {Cell | undefined} before
+ * @param {boolean} compares
+ * @param {(row: number, event: MouseEvent) => void} open
+ */
+function cellOf(where, cell, before, compares, open) {
+  const change = compares ? changeOf(before, cell) : null;
+  if (!cell && !before) return element("td", {});
+  const [sign, told] = change ? CHANGES[change] : ["", ""];
+  const earlier = change && change !== "same" && before ? element("span", { class: "before" }, `${before.mark} →`) : null;
+  if (!cell) return element("td", { class: "gone" }, earlier, sign);
+  const words = `${where}: ${cell.words}${told ? `; ${told}` : ""}`;
+  const { number } = cell.row;
+  const link = element("a", { href: "#campaign", "data-row": number, "aria-label": words, title: words, onclick: (/** @type {MouseEvent} */ event) => open(number, event) }, cell.mark);
+  return element("td", { class: `${classOf(cell.look)}${cell.wrong ? " wrong" : ""}${change ? ` ${change}` : ""}` }, earlier, link, sign ? element("span", { class: "change-sign", "aria-hidden": "true" }, ` ${sign}`) : null);
+}
+
+/**
+ * The tables of all ways of lying.
+ * @param {Table} table
+ * @param {Table | null} before what it is compared with
+ * @param {(row: number, event: MouseEvent) => void} open
+ */
+export function tablesOf(table, before, open) {
+  const slots = [...table.slots, ...(before?.slots.filter((slot) => !table.slots.includes(slot)) ?? [])];
+  const kinds = before && before.kinds.length > table.kinds.length ? before.kinds : table.kinds;
+  const units = before && before.units.length > table.units.length ? before.units : table.units;
+  return kinds.map((kind) =>
+    element(
+      "div",
+      { class: "scroll" },
+      element(
+        "table",
+        { class: `campaign${before ? " compared" : ""}` },
+        element("caption", {}, kind),
+        element("thead", {}, element("tr", {}, element("th", { scope: "col" }, "unit"), ...units.map((unit) => element("th", { scope: "col" }, unit)))),
+        element(
+          "tbody",
+          {},
+          ...slots.map((slot) =>
+            element(
+              "tr",
+              {},
+              element("th", { scope: "row" }, slot),
+              ...units.map((unit) => cellOf(`unit ${unit}, ${slot}, ${kind}`, table.at(slot, kind, unit), before?.at(slot, kind, unit), before !== null, open)),
+            ),
+          ),
+        ),
+      ),
+    ),
+  );
+}
+
+/**
+ * What the marks mean that stand in a table.
+ * @param {Table} table
+ * @param {boolean} compares
+ */
+export function keyOf(table, compares) {
+  const changes = compares ? [CHANGES.better, CHANGES.worse, CHANGES.new, CHANGES.gone] : [];
+  const wrong = [...table.cells.values()].some((cell) => cell.wrong);
+  return element(
+    "ul",
+    { class: "key campaign-key", "aria-label": "What the marks mean" },
+    ...table.looks.map((look) => element("li", {}, element("span", { class: `swatch ${classOf(look)}` }, LOOKS[look][0] ?? "1"), LOOKS[look][1])),
+    wrong && element("li", {}, element("span", { class: "swatch wrong" }, "*"), "an output was lost: a unit voted another word than the ideal machine"),
+    ...changes.map(([sign, words]) => element("li", {}, element("span", { class: "swatch" }, sign), words)),
+  );
+}
