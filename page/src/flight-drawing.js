@@ -25,6 +25,11 @@ export class FlightDrawing {
     this.flight = null;
     /** @type {Mark[]} */
     this.marks = [];
+    /**
+     * What faulty units do, where the mission is known.
+     * @type {import("./picture.js").Conduct}
+     */
+    this.conduct = () => "";
     this.frame = 0;
     /** @type {number | null} */
     this.unit = null;
@@ -132,7 +137,7 @@ export class FlightDrawing {
     this.picture.setAttribute("height", String(height));
     this.picture.style.left = `${this.drawnFrom * cell}px`;
     const partly = flight.frames.length * cell > this.grid.clientWidth;
-    this.picture.replaceChildren(...drawFlight(flight, { first: this.drawnFrom, last: this.drawnTo, cell, partly, id: this.id }), this.over);
+    this.picture.replaceChildren(...drawFlight(flight, { first: this.drawnFrom, last: this.drawnTo, cell, partly, id: this.id, conduct: this.conduct }), this.over);
     this.drawOver();
     this.drawOverview();
   }
@@ -212,7 +217,7 @@ export class FlightDrawing {
   tell(number, unit) {
     if (!this.flight) return "";
     const frame = this.flight.frames[number];
-    if (unit !== null) return tellUnit(this.flight, number, unit);
+    if (unit !== null) return tellUnit(this.flight, number, unit, this.conduct);
     const clocks = frame.skew === null ? "no skew is told" : `skew ${frame.skew}, slack ${frame.slack}`;
     return `frame ${number}: configuration ${frame.configuration.join("")}, margin ${frame.margin ? "kept" : "lost"}, ${clocks}`;
   }

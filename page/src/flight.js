@@ -2,6 +2,7 @@
 import { byId, element, prose } from "./elements.js";
 import { eventsOf, headlineOf, slackOf } from "./events.js";
 import { FlightDrawing } from "./flight-drawing.js";
+import { conductOf } from "./mission.js";
 import { statedBy } from "./stated.js";
 
 /** @typedef {import("./report.js").Flight} Flight */
@@ -58,7 +59,8 @@ export function start(section, { store }) {
   store.subscribe((state, changed) => {
     section.classList.toggle("stale", state.told !== "flown");
     if (changed.has("flown") && state.flown) {
-      const { flight } = state.flown;
+      const { flight, mission } = state.flown;
+      drawing.conduct = (unit, frame) => conductOf(mission, unit, frame);
       headline.textContent = headlineOf(flight);
       slack.textContent = slackOf(flight);
       drawing.show(flight, [], state.frame, state.unit);

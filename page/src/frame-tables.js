@@ -54,15 +54,16 @@ function table(caption, heads, rows) {
  * What each unit tells.
  * @param {Frame} frame
  * @param {number | null} chosen
+ * @param {(unit: number) => string} conduct what a faulty unit does
  */
-export function unitsTable(frame, chosen) {
+export function unitsTable(frame, chosen, conduct) {
   const rows = frame.units.map((account, unit) => {
     const look = lookOf(frame, unit);
     return element(
       "tr",
       { class: unit === chosen && "chosen-row" },
       element("th", { scope: "row" }, element("span", { class: `unit-sign swatch ${look}` }), `unit ${unit}`),
-      element("td", {}, LOOKS[look]),
+      element("td", {}, [LOOKS[look], look === "faulty" ? conduct(unit) : ""].filter(Boolean).join(", ")),
       element("td", { class: "mono" }, account.configuration?.join("") ?? "–"),
       element("td", { class: "mono" }, account.clock ?? "–"),
       element("td", {}, groupedByKinds([...account.catches]) || "–"),

@@ -2,7 +2,7 @@
 import { element } from "./elements.js";
 import { shown, unitsTable, votesTable, wordsTable } from "./frame-tables.js";
 import { readIdeal } from "./ideal.js";
-import { wordsOf } from "./mission.js";
+import { conductOf, wordsOf } from "./mission.js";
 import { Stopped } from "./program.js";
 import { Votes } from "./votes.js";
 
@@ -84,7 +84,7 @@ export function start(section, { store, program }) {
     if (!flown || !frame) return;
     number.value = String(place);
     number.max = String(flown.flight.frames.length - 1);
-    units.replaceChildren(element("p", { class: "more" }, tellFrame(frame)), unitsTable(frame, unit));
+    units.replaceChildren(element("p", { class: "more" }, tellFrame(frame)), unitsTable(frame, unit, (each) => conductOf(flown.mission, each, place)));
     clearTimeout(resting);
     const many = wordsOf(flown.mission).length > FEW;
     resting = setTimeout(() => drawWords(flown, frame, place), many ? REST : 0);
