@@ -1,6 +1,7 @@
 """The odds against closed forms, against scipy, against a Monte Carlo, and White's bounds around them."""
 import math
 import random
+from types import SimpleNamespace
 
 import numpy as np
 import pytest
@@ -187,8 +188,7 @@ class Row:
     """A row of a campaign."""
 
     def __init__(self, unit, slot, kind, removal, fate="out", wrong=0, first=None):
-        fields = (str(unit), slot, kind, "0")
-        self.faults = [type("Fault", (), {"groups": staticmethod(lambda: fields)})]
+        self.faults = [SimpleNamespace(unit=str(unit), slot=slot, way=kind, begin=0)]
         self.fates, self.removals, self.wrong, self.first = [fate], [removal], wrong, first
 
 

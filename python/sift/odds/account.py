@@ -32,8 +32,7 @@ LEVELS = ("slot", "unit", "way")
 def overtaken(solution: Solution, size: int, frames: int) -> float:
     """The probability that a second unit fails before so many frames are over."""
     chain = solution.chain
-    phases = (frames + chain.rates.begun) * chain.phases
-    return -math.expm1(-phases * math.log1p((size - 1) * chain.rates.failing / chain.speed))
+    return -math.expm1(-chain.phases_of(frames) * math.log1p((size - 1) * chain.rates.failing / chain.speed))
 
 
 def group_of(cause: Cause, size: int) -> tuple:

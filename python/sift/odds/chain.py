@@ -34,15 +34,16 @@ MOST_PHASES = 8  # of a frame
 class Rates:
     """How often a unit fails in an hour, for ever and for a while, and how long a frame and a transient failure last.
 
-    `begun` is how many frames are counted for the one in whose middle the unit fails: 1 is careful. `phases` is how many a frame
-    has; where it isn't given, as many as it takes.
+    `begun` is how many frames are counted for the one in whose middle the unit fails: 1 is careful; -0.5 is the mean where a
+    failure counts from the beginning of its frame, as a scripted one does. `phases` is how many a frame has; where it isn't
+    given, as many as it takes.
     """
 
     permanent: float
     transient: float
     frame: float  # seconds
     lasts: int = 1  # frames
-    begun: int = 1
+    begun: float = 1
     phases: Optional[int] = None
 
     def __post_init__(self) -> None:
@@ -52,7 +53,7 @@ class Rates:
                 raise ValueError(f"the {name} rate {rate}: a rate is a number of failures an hour from 0 on")
         if not (math.isfinite(self.frame) and self.frame > 0):
             raise ValueError(f"a frame of {self.frame} s: a frame has a number of seconds above 0")
-        if self.lasts < 1 or self.begun < 0 or (self.phases is not None and self.phases < 1):
+        if self.lasts < 1 or self.begun < -1 or (self.phases is not None and self.phases < 1):
             raise ValueError("a transient failure lasts a frame or more, and a frame has a phase or more")
 
     @property
@@ -131,9 +132,13 @@ class Chain:
         self.moves[stays, (SECOND, size, "stays")] = (size - 1) * self.rates.failing
         return stays
 
+    def phases_of(self, frames: int) -> int:
+        """How many phases so many frames have, with what counts of the one in which the unit failed."""
+        return round((frames + self.rates.begun) * self.phases)
+
     def waiting(self, what: str, size: int, frames: int, then: tuple) -> tuple:
         """A faulty unit that is out, or well, after so many frames, phase by phase."""
-        count = (frames + self.rates.begun) * self.phases
+        count = self.phases_of(frames)
         for left in range(1, count + 1):
             state = (what, size, left)
             self.moves[state, then if left == 1 else (what, size, left - 1)] = self.speed

@@ -69,8 +69,9 @@ def ways_of(rows: Iterable, units: int, weights: Sequence[tuple[str, float]] = (
     for row in rows:
         if len(row.faults) != 1 or row.fates[0] == "inert":
             continue
-        unit, slot, kind, begin = row.faults[0].groups()
-        tried.setdefault(int(unit), {}).setdefault(slot, {}).setdefault(kind, []).append((row, int(begin)))
+        fault = row.faults[0]
+        slots = tried.setdefault(int(fault.unit), {})
+        slots.setdefault(fault.slot, {}).setdefault(fault.way, []).append((row, int(fault.begin)))
     lacking = [str(unit) for unit in range(units) if unit not in tried]
     if lacking:
         raise NoWays(f"no single fault of unit {', '.join(lacking)} was flown that says anything")
