@@ -1,4 +1,5 @@
 """The commands as functions: the library and the program answer as the cases say, and each answer is a value or its refusal."""
+import os
 import pickle
 import subprocess
 import sys
@@ -172,6 +173,31 @@ def test_want_of_memory_is_an_exception_and_the_library_goes_on():
     ended = subprocess.run([sys.executable, "-c", code], capture_output=True, text=True, check=True)
     wanting, length = map(int, ended.stdout.split())
     assert wanting > 0 and length == len(Path("missions/eight_units.report").read_bytes())
+
+
+def test_what_is_asked(monkeypatch, tmp_path):
+    """What is named by the environment counts; and the program where the library is older, and of other sources."""
+    monkeypatch.setattr(where, "HOME", str(tmp_path))
+    monkeypatch.setattr(where, "BUILT", str(tmp_path / "out" / "sift"))
+    for name in ("SIFT_LIBRARY", "SIFT_PROGRAM"):
+        monkeypatch.delenv(name, raising=False)
+    built = tmp_path / "out"
+    built.mkdir()
+    assert where.library() is None and callers.built() is None
+    for name in ("sift", "libsift.so", "sift.sources", "library.sources"):
+        (built / name).write_text("1234\n")
+    (built / "sift").chmod(0o755)
+    assert where.library() == str(built / "libsift.so")
+    os.utime(built / "libsift.so", (1, 1))
+    assert where.library() == str(built / "libsift.so")
+    (built / "sift.sources").write_text("5678\n")
+    assert where.library() is None and callers.built().path == str(built / "sift")
+    monkeypatch.setenv("SIFT_LIBRARY", "a library")
+    assert where.library() == "a library"
+    monkeypatch.delenv("SIFT_LIBRARY")
+    os.utime(built / "libsift.so")
+    monkeypatch.setenv("SIFT_PROGRAM", "/a/program")
+    assert where.library() is None and where.program() == "/a/program"
 
 
 def test_what_is_no_library_or_program_is_said(tmp_path):
