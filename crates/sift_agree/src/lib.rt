@@ -4,9 +4,5 @@
 #![tactic(auto)]
 
 mod agreeing;
-mod catching;
-mod laws;
 
-pub use agreeing::agree;
-pub use catching::relay_catches;
-pub use laws::{faulty_unit_is_agreed_on, working_unit_is_agreed_on};
+pub use agreeing::{agree, faulty_unit_is_agreed_on, relay_catches, working_unit_is_agreed_on};

@@ -8,12 +8,14 @@ ghost use Rattle.sift_mission.specs.Parts.{data_of};
 ghost use Rattle.sift_reply.specs.Reply.{no_memory_status};
 ghost use Rattle.sift_reply.specs.Promise.{AskForNoInput, IsAnswered, IsCertain};
 ghost use Rattle.sift_commands.specs.Command.{commands};
-ghost use Rattle.sift_commands.specs.Headline.{IsHeadlineWritten};
+ghost use Rattle.sift_commands.specs.Headline.{IsCaughtWritten, IsHeadlineWritten};
 
 use crate::fleet::Fleet;
 use crate::flying::tell_alone;
 use sift_base::NoMemory;
-use sift_commands::{Command, commands_have_own_statuses, the_headline_is_written};
+use sift_commands::{
+    Command, commands_have_own_statuses, the_caught_are_written, the_headline_is_written,
+};
 use sift_io::{Sink, Source};
 use sift_jobs::FlightOrder;
 use sift_reply::answer;
@@ -48,6 +50,9 @@ pub fn sift_by<
     ensures headline { IsHeadlineWritten (AreGiven R.allows rogues.items) (map string_bytes words.now)
         (record { before = S.inflow source.old; after = S.inflow source.new })
         (record { before = K.outflow sink.old; after = K.outflow sink.new }) result }
+    ensures caught { IsCaughtWritten (AreGiven R.allows rogues.items) (map string_bytes words.now)
+        (record { before = S.inflow source.old; after = S.inflow source.new })
+        (record { before = K.outflow sink.old; after = K.outflow sink.new }) result }
 
     // Only a command that reads it reads the source, and want of memory writes nothing.
     ensures unread { AskForNoInput (commands (AreGiven R.allows rogues.items)) (map string_bytes words.now) → source.new ≡ source.old }
@@ -55,6 +60,7 @@ pub fn sift_by<
 {
     commands_have_own_statuses::<Fleet<R>>();
     the_headline_is_written::<Fleet<R>>();
+    the_caught_are_written::<Fleet<R>>();
     let fleet = Fleet::of(rogues);
     answer::<Fleet<R>, FlightOrder<Fleet<R>>, Command, S, K, T>(
         alloc, fleet, words, source, sink, tell,
@@ -77,6 +83,9 @@ pub fn sift_alone<S: Source, K: Sink, R: Rogue>(
         (record { before = S.inflow source.old; after = S.inflow source.new })
         (record { before = K.outflow sink.old; after = K.outflow sink.new }) result }
     ensures headline { IsHeadlineWritten (AreGiven R.allows rogues.items) (map string_bytes words.now)
+        (record { before = S.inflow source.old; after = S.inflow source.new })
+        (record { before = K.outflow sink.old; after = K.outflow sink.new }) result }
+    ensures caught { IsCaughtWritten (AreGiven R.allows rogues.items) (map string_bytes words.now)
         (record { before = S.inflow source.old; after = S.inflow source.new })
         (record { before = K.outflow sink.old; after = K.outflow sink.new }) result }
     ensures unread { AskForNoInput (commands (AreGiven R.allows rogues.items)) (map string_bytes words.now) → source.new ≡ source.old }

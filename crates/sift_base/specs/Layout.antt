@@ -1,9 +1,9 @@
 -- Slots, and their numbers in a mission's layout. A slot is a place for one word, from one unit to another in one frame.
 use Rattle.std.specs.Prelude.{◌≡◌, ℕ, ◌+◌, ◌-◌, ◌*◌, ◌<◌, ◌≤◌, nat_eq, nat_lt, if◌then◌else◌, ⊤}
 use Rattle.sift_base.specs.Units.{unit_limit}
-use Rattle.sift_base.specs.declared.layout.Layout.{Layout}
-use Rattle.sift_base.specs.declared.slot.Slot.{Slot}
-use Rattle.sift_base.specs.declared.slot.Slot.TheVariants.{Clock, Sense, RelaySense, Out, Report, RelayReport}
+use Rattle.sift_base.specs.declared.slots.Layout.{Layout}
+use Rattle.sift_base.specs.declared.slots.Slot.{Slot}
+use Rattle.sift_base.specs.declared.slots.Slot.TheVariants.{Clock, Sense, RelaySense, Out, Report, RelayReport}
 
 -- the least number of units
 abbrev pub least_units : ℕ

@@ -2,8 +2,8 @@
 use Rattle.std.specs.Prelude.{ℕ, ◌<◌, ◌≤◌, List, [], length, map, take, slice_index_or}
 use Rattle.std.specs.List.{All, sum_by}
 use Rattle.sift_base.specs.Layout.{sensor_limit, word_limit}
-use Rattle.sift_base.specs.declared.shapes.TaskShape.{TaskShape}
-use Rattle.sift_base.specs.declared.shapes.Shapes.{Shapes}
+use Rattle.sift_base.specs.declared.slots.TaskShape.{TaskShape}
+use Rattle.sift_base.specs.declared.slots.Shapes.{Shapes}
 
 -- the most tasks of a mission
 abbrev pub task_limit : ℕ

@@ -5,25 +5,18 @@
 #![tactic(auto)]
 
 mod draw;
-mod layout;
-mod memory;
 mod name;
-mod order;
-mod shapes;
-mod slot;
+mod slots;
 mod stop;
-mod unit;
-mod unit_set;
+mod units;
 mod word;
 
 pub use draw::Draw;
-pub use layout::{Layout, numbers_have_their_slots, slot_numbers_are_below, slot_numbers_differ};
-pub use memory::NoMemory;
 pub use name::{NAME_LIMIT, Name, is_name, is_name_byte};
-pub use order::is_ascending;
-pub use shapes::{Shapes, TaskShape};
-pub use slot::Slot;
-pub use stop::Stop;
-pub use unit::UnitId;
-pub use unit_set::{UnitSet, members_are_the_set};
+pub use slots::{
+    Layout, SENSOR_LIMIT, Shapes, Slot, TaskShape, limits_are_those_of_layouts,
+    numbers_have_their_slots, slot_numbers_are_below, slot_numbers_differ,
+};
+pub use stop::{NoMemory, Stop};
+pub use units::{UNIT_LIMIT, UnitId, UnitSet, is_ascending, members_are_the_set};
 pub use word::Word;

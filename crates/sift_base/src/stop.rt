@@ -1,7 +1,22 @@
-//! Why a call has no value.
+//! Why a call has no value, and want of memory.
 
-use crate::memory::NoMemory;
 use std::alloc::{AllocError, AllocFailed};
+
+/// An allocation failed. Every call that allocates may answer this, and it says nothing else.
+#[derive(Clone, Copy, Debug)]
+pub struct NoMemory;
+
+impl From<AllocError> for NoMemory {
+    fn from(_: AllocError) -> Self {
+        NoMemory
+    }
+}
+
+impl<T: Drop> From<AllocFailed<T>> for NoMemory {
+    fn from(_: AllocFailed<T>) -> Self {
+        NoMemory
+    }
+}
 
 /// Why a call has no value: what it was asked for is refused, for this reason, or memory was wanting, which says
 /// nothing of it.

@@ -1,6 +1,6 @@
 -- A ledger with one word more tells one saying or hearing more.
 use Rattle.std.proofs.Common.{◌≡◌, ℕ, ◌≤◌, ◌==◌, ◌&&◌, Bool, true, false, if◌then◌else◌, List, length, slice_set, Option, Some, sym, refl, ap, ◌∙◌, subst, arith, ne_eqb}
-use Rattle.sift_base.specs.declared.layout.Layout.{Layout}
+use Rattle.sift_base.specs.declared.slots.Layout.{Layout}
 use Rattle.sift_buffer.specs.Ranges.{Ranges, IsPlace}
 use Rattle.sift_buffer.specs.Conduct.{never, last_progress, saying, hearing, put_at, with_said, with_heard}
 use Rattle.sift_buffer.specs.Tables.{ranges_of, IsEntry, entry_count, entry_number, entry_at}

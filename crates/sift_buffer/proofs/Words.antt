@@ -1,6 +1,6 @@
 -- A journal keeps the words that the conduct tells.
 use Rattle.std.proofs.Common.{◌≡◌, ℕ, ◌==◌, ◌&&◌, Bool, true, false, if◌then◌else◌, Option, Some, option_and_then, refl, sym, ap, ◌∙◌}
-use Rattle.sift_base.specs.declared.layout.Layout.{Layout}
+use Rattle.sift_base.specs.declared.slots.Layout.{Layout}
 use Rattle.sift_buffer.specs.Conduct.{Conduct, Saying, Hearing, fresh, saying, hearing, put_at, with_said, with_heard}
 use Rattle.sift_buffer.specs.Journals.{said_in, heard_in, IsBlank, NotesSaid, NotesHeard}
 use Rattle.sift_buffer.specs.Ledgers.{Ledger, HasItsWords, conduct_in}

@@ -1,7 +1,7 @@
 -- The acts of all units, as ledgers by unit, and the core that they make with the shared words. No ledger keeps strays: what holds of a crew
 -- holds with some.
 use Rattle.std.specs.Prelude.{◌≡◌, ℕ, ◌<◌, List, [], ◌++◌, length, slice_index_or}
-use Rattle.sift_base.specs.declared.layout.Layout.{Layout}
+use Rattle.sift_base.specs.declared.slots.Layout.{Layout}
 use Rattle.sift_buffer.specs.Core.{Core}
 use Rattle.sift_buffer.specs.Journals.{IsJournalOf, no_pages}
 use Rattle.sift_buffer.specs.Conduct.{Stray, fresh, never, put}

@@ -1,6 +1,6 @@
 -- What a contract sees of a journal: whose it is, and the words that its unit said and heard.
 use Rattle.std.specs.Prelude.{◌≡◌, ℕ, List, [], Option, None, option_and_then}
-use Rattle.sift_base.specs.declared.layout.Layout.{Layout}
+use Rattle.sift_base.specs.declared.slots.Layout.{Layout}
 use Rattle.sift_buffer.specs.Ranges.{Ranges}
 use Rattle.sift_buffer.specs.Conduct.{Conduct, put_at}
 use Rattle.sift_buffer.specs.Tables.{ranges_of, IsEntry, entry_number, entry_at}

@@ -1,6 +1,6 @@
 -- What a contract sees of the acts that a unit keeps: its journal with stamps, and what it knows.
 use Rattle.std.specs.Prelude.{◌≡◌, ℕ, ◌==◌, if◌then◌else◌, List, [], slice_index, Option, Some, None}
-use Rattle.sift_base.specs.declared.layout.Layout.{Layout}
+use Rattle.sift_base.specs.declared.slots.Layout.{Layout}
 use Rattle.sift_buffer.specs.Ranges.{Ranges}
 use Rattle.sift_buffer.specs.Conduct.{Saying, Hearing, Stray, Conduct, saying, hearing}
 use Rattle.sift_buffer.specs.Tables.{entry_at}

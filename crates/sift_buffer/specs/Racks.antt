@@ -1,6 +1,6 @@
 -- A rack as a core, and as the port of each unit.
 use Rattle.std.specs.Prelude.{◌≡◌, ℕ, List, [], slice_index, slice_set}
-use Rattle.sift_base.specs.declared.layout.Layout.{Layout}
+use Rattle.sift_base.specs.declared.slots.Layout.{Layout}
 use Rattle.sift_buffer.specs.Ranges.{Ranges, place}
 use Rattle.sift_buffer.specs.Conduct.{Conduct, Stray}
 use Rattle.sift_buffer.specs.Core.{Core, fresh_core}

@@ -1,6 +1,6 @@
 -- That the lists of a journal and of a ledger have an entry for each frame, slot and unit.
 use Rattle.std.specs.Prelude.{◌≡◌, ℕ, ◌<◌, length}
-use Rattle.sift_base.specs.declared.layout.Layout.{Layout}
+use Rattle.sift_base.specs.declared.slots.Layout.{Layout}
 use Rattle.sift_base.specs.Units.{unit_limit}
 use Rattle.sift_buffer.specs.Tables.{ranges_of, entry_count}
 use Rattle.sift_buffer.specs.Journals.{Pages, ranges_in}

@@ -1,6 +1,6 @@
 -- Lists with one entry for each frame, slot and unit.
 use Rattle.std.specs.Prelude.{ℕ, ◌+◌, ◌*◌, ◌<◌, ◌&&◌, nat_lt, List, slice_index_or, if◌then◌else◌}
-use Rattle.sift_base.specs.declared.layout.Layout.{Layout}
+use Rattle.sift_base.specs.declared.slots.Layout.{Layout}
 use Rattle.sift_base.specs.Layout.{slot_count}
 use Rattle.sift_buffer.specs.Ranges.{Ranges}
 

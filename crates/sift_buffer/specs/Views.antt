@@ -1,6 +1,5 @@
 -- What contracts see of a port, and what its calls make of it.
 use Rattle.std.specs.Prelude.{◌≡◌, ◌≢◌, ℕ, ◌+◌, ◌<◌, ◌≤◌, ◌==◌, if◌then◌else◌, min, List, [], ◌∷◌, length, Option, Some, None, ⊤}
-use Rattle.sift_base.specs.Units.{unit_limit}
 use Rattle.sift_buffer.specs.Ranges.{Ranges}
 use Rattle.sift_buffer.specs.Conduct.{Conduct, fresh, with_seen, with_said, with_heard, with_entered, with_turned}
 use Rattle.sift_buffer.specs.Conditions.{MaySay, MayHear, MayStray, PassesGate}
@@ -75,13 +74,6 @@ PortMayStray v q k = MayStray v.ranges v.conduct v.unit q k
 -- it is a unit, and another than the port's
 abbrev pub IsOther : View → ℕ → Type 0
 IsOther v p = (p < v.ranges.units) × (p ≢ v.unit)
-
--- these are the numbers of the port's units, at most as many as there may be, of its own unit, and of this unit's progress
-pub record AreOwn (v : View) (units own progress : ℕ) : Type 0 where
-  pub units_are : units ≡ v.ranges.units
-  pub few : units ≤ unit_limit
-  pub own_is : own ≡ v.unit
-  pub progress_is : progress ≡ v.conduct.progress
 
 -- ---- a round of looks
 

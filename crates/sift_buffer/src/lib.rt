@@ -4,7 +4,6 @@
 
 mod acts;
 mod cell;
-mod gate;
 mod grid;
 mod journal;
 mod laws;
@@ -14,11 +13,10 @@ mod rack_port;
 
 pub use acts::Acts;
 pub use cell::{pack, take};
-pub use gate::{Look, find_behind};
 pub use grid::Grid;
 pub use journal::Journal;
 pub use laws::{
     conditions_tell_cores_apart, events_keep_the_core_lawful, fresh_is_lawful, packing_is_taken,
 };
-pub use port::{Entering, Port};
+pub use port::{Entering, Look, Port, find_behind};
 pub use rack::Rack;

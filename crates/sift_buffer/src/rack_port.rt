@@ -1,20 +1,17 @@
 //! The plain memory of all units as the port of each.
-ghost use Rattle.std.specs.Prelude.{◌≡◌, ◌<◌, ◌+◌, ℕ, List, [], IfOk};
+ghost use Rattle.std.specs.Prelude.{◌≡◌, ◌<◌, ℕ, List, IfOk};
 ghost use Rattle.sift_base.specs.Layout.{IsLayout};
 ghost use Rattle.sift_buffer.specs.Conduct.{Stray, stray_to};
-ghost use Rattle.sift_buffer.specs.Conditions.{MayEnter, MayTurn, PassesGate};
 ghost use Rattle.sift_buffer.specs.Lawful.{Lawful};
 ghost use Rattle.sift_buffer.specs.Ranges.{IsCell};
-ghost use Rattle.sift_buffer.specs.Views.{view_with_entered, view_with_turned};
 ghost use Rattle.sift_buffer.specs.Racks.{IsNewRack, IsChosen, IsStored, Follows, Stands, view_of, ranges_for, core_of, conduct_at};
 ghost use Rattle.sift_buffer.specs.Crews.{IsCrew};
 ghost use Rattle.sift_buffer.specs.Following.{itself, further};
 
 use crate::acts::Acts;
 use crate::cell::{pack, take};
-use crate::gate::{Look, find_behind};
 use crate::grid::Grid;
-use crate::port::{Entering, Port};
+use crate::port::{Look, Port};
 use crate::rack::Rack;
 use sift_base::{Layout, NoMemory, UnitId, Word};
 use std::alloc::Global;
@@ -91,32 +88,6 @@ impl Rack {
         self.acts
     }
 
-    /// Stores the progress of the unit, raised by one.
-    fn go_on(&mut self)
-        requires may { MayEnter (view_of self.old).conduct }
-        requires gate { PassesGate (ranges_for self.old) (view_of self.old).conduct self.old.unit }
-        ensures entered { view_of self.new ≡ view_with_entered (view_of self.old) }
-        ensures follows { Follows self.old [] self.new }
-    {
-        let unit = usize::from(self.unit.get());
-        let own = &mut self.acts[unit];
-        self.words[unit] = own.progress() + 1;
-        own.note_entered();
-    }
-
-    /// Stores the progress number of a unit that has turned.
-    fn leave(&mut self)
-        requires may { MayTurn (view_of self.old).conduct }
-        requires gate { 0 < (view_of self.old).conduct.progress → PassesGate (ranges_for self.old) (view_of self.old).conduct self.old.unit }
-        ensures turned { view_of self.new ≡ view_with_turned (view_of self.old) }
-        ensures follows { Follows self.old [] self.new }
-    {
-        let unit = usize::from(self.unit.get());
-        let own = &mut self.acts[unit];
-        own.note_turned();
-        self.words[unit] = own.progress();
-    }
-
     /// Stores a number in a unit's own cell for another unit in a slot.
     pub fn store(&mut self, unit: UnitId, to: UnitId, slot: usize, cell: u64)
         requires unit { unit < self.old.grid.layout.units }
@@ -139,6 +110,18 @@ impl Look for Rack {
 
     ghost follows_on = { further };
 
+    fn units(&self) -> u8 {
+        self.grid.layout.units
+    }
+
+    fn unit(&self) -> UnitId {
+        self.unit
+    }
+
+    fn progress(&self) -> u64 {
+        self.acts[usize::from(self.unit.get())].progress()
+    }
+
     fn look(&mut self, other: UnitId) -> u64 {
         let number = self.words[usize::from(other.get())];
         let own = &mut self.acts[usize::from(self.unit.get())];
@@ -151,10 +134,6 @@ impl Look for Rack {
 }
 
 impl Port for Rack {
-    fn progress(&self) -> u64 {
-        self.acts[usize::from(self.unit.get())].progress()
-    }
-
     fn say(&mut self, to: UnitId, slot: usize, f: u32, stamp: u32, word: Option<Word>) {
         let stored = word;
         let place = self.grid.place(self.unit, to, slot);
@@ -172,26 +151,18 @@ impl Port for Rack {
         word
     }
 
-    fn try_enter(&mut self) -> Entering {
-        let progress = self.acts[usize::from(self.unit.get())].progress();
-        if let Some((unit, seen)) = find_behind(self, self.grid.layout.units, self.unit, progress) {
-            return Entering::NotYet { unit, seen };
-        }
-        self.go_on();
-        Entering::Entered
+    fn enter(&mut self) {
+        let unit = usize::from(self.unit.get());
+        let own = &mut self.acts[unit];
+        self.words[unit] = own.progress() + 1;
+        own.note_entered();
     }
 
-    fn turn(&mut self) -> Entering {
-        let progress = self.acts[usize::from(self.unit.get())].progress();
-        if progress == 0 {
-            self.leave();
-            return Entering::Entered;
-        }
-        if let Some((unit, seen)) = find_behind(self, self.grid.layout.units, self.unit, progress) {
-            return Entering::NotYet { unit, seen };
-        }
-        self.leave();
-        Entering::Entered
+    fn leave(&mut self) {
+        let unit = usize::from(self.unit.get());
+        let own = &mut self.acts[unit];
+        own.note_turned();
+        self.words[unit] = own.progress();
     }
 
     fn stray(&mut self, to: UnitId, slot: usize, cell: u64) {

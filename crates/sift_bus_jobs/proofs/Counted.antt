@@ -5,7 +5,7 @@ use Rattle.std.proofs.lemmas.List.{get_or-replicate, length-replicate}
 use Rattle.std.proofs.lemmas.List.Sums.{sum_by-cons}
 use Rattle.std.proofs.lemmas.Option.{same_Some}
 use Rattle.sift_base.specs.Layout.{slot_count}
-use Rattle.sift_base.specs.declared.layout.Layout.{Layout}
+use Rattle.sift_base.specs.declared.slots.Layout.{Layout}
 use Rattle.sift_buffer.specs.Conduct.{Hearing}
 use Rattle.sift_buffer.specs.Ranges.{Ranges}
 use Rattle.sift_buffer.specs.Tables.{ranges_of}

@@ -14,7 +14,7 @@ use Rattle.sift_mission.specs.Premises.{PartsMakeItFlyable}
 use Rattle.sift_mission.specs.Slots.{calls}
 use Rattle.sift_reply.specs.Reply.{Reply, done, done_status, shared_statuses}
 use Rattle.sift_report.specs.OneText.{AlikeFlightsHaveOneText}
-use Rattle.sift_line.specs.declared.version.Version.TheVariants.{Two}
+use Rattle.sift_line.specs.declared.line.Version.TheVariants.{Two}
 use Rattle.sift_scenario.specs.Laws.{StatedMissionsFit}
 use Rattle.sift_bus_jobs.specs.Buses.{BusesGives, FliesCalm, storm_status, told}
 use Rattle.sift_bus_jobs.specs.Numbers.{BusNumbers}

@@ -1,6 +1,6 @@
 -- What is written into a log is noted there.
 use Rattle.std.proofs.Common.{◌≡◌, ℕ, zero, suc, ◌<◌, ◌&&◌, Bool, true, false, nat_eq, List, length, replicate, slice_set, slice_index_or, if◌then◌else◌, Option, None, refl, ap, ◌∙◌, arith}
-use Rattle.sift_base.specs.declared.layout.Layout.{Layout}
+use Rattle.sift_base.specs.declared.slots.Layout.{Layout}
 use Rattle.sift_buffer.specs.Conduct.{put_at}
 use Rattle.sift_buffer.specs.Ranges.{Ranges}
 use Rattle.sift_buffer.specs.Tables.{IsEntry, ranges_of, entry_at, entry_count, entry_number}

@@ -1,7 +1,7 @@
 -- What comes of a flight over three buses: the log of each unit.
 use Rattle.std.specs.Prelude.{◌≡◌, ℕ, ◌<◌, true, List, length, slice_index_or, Option, Some, None, option_map, if◌then◌else◌}
-use Rattle.sift_base.specs.declared.layout.Layout.{Layout}
-use Rattle.sift_base.specs.declared.slot.Slot.{Slot}
+use Rattle.sift_base.specs.declared.slots.Layout.{Layout}
+use Rattle.sift_base.specs.declared.slots.Slot.{Slot}
 use Rattle.sift_buffer.specs.Conduct.{Hearing}
 use Rattle.sift_buffer.specs.Tables.{ranges_of}
 use Rattle.sift_mission.specs.Data.{FlownMission}

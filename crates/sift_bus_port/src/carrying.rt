@@ -10,7 +10,7 @@ use crate::log::BusLog;
 use crate::port::BusPort;
 use crate::three::vote_of_three;
 use sift_base::{UnitId, Word};
-use sift_buffer::{Entering, Look, Port};
+use sift_buffer::{Look, Port};
 
 impl<T: Port, B: Bus> BusPort<T, B> {
     /// A port of a unit that has heard nothing yet, with three buses before it, of which this one
@@ -60,16 +60,24 @@ impl<T: Port, B: Bus> Look for BusPort<T, B> {
 
     ghost follows_on = { λ p q s earlier later a b. (T.follows_on p.port q.port s.port earlier later a.0 b.0, further B.allows _ _ _ a.1 b.1) };
 
+    fn units(&self) -> u8 {
+        self.port.units()
+    }
+
+    fn unit(&self) -> UnitId {
+        self.port.unit()
+    }
+
+    fn progress(&self) -> u64 {
+        self.port.progress()
+    }
+
     fn look(&mut self, other: UnitId) -> u64 {
         self.port.look(other)
     }
 }
 
 impl<T: Port, B: Bus> Port for BusPort<T, B> {
-    fn progress(&self) -> u64 {
-        self.port.progress()
-    }
-
     fn say(&mut self, to: UnitId, slot: usize, f: u32, stamp: u32, word: Option<Word>) {
         self.port.say(to, slot, f, stamp, word);
     }
@@ -84,12 +92,12 @@ impl<T: Port, B: Bus> Port for BusPort<T, B> {
         word
     }
 
-    fn try_enter(&mut self) -> Entering {
-        self.port.try_enter()
+    fn enter(&mut self) {
+        self.port.enter();
     }
 
-    fn turn(&mut self) -> Entering {
-        self.port.turn()
+    fn leave(&mut self) {
+        self.port.leave();
     }
 
     fn stray(&mut self, to: UnitId, slot: usize, cell: u64) {

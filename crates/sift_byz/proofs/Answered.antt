@@ -7,7 +7,7 @@ use Rattle.sift_base.specs.declared.stop.Stop.{Stop}
 use Rattle.sift_base.specs.declared.stop.Stop.TheVariants as stop
 use Rattle.sift_document.specs.Document.{word_array, word_value}
 use Rattle.sift_document.specs.Testing.{OnlyRefuses}
-use Rattle.sift_document.specs.declared.rule.BrokenRule.{BrokenRule}
+use Rattle.sift_document.specs.declared.entries.BrokenRule.{BrokenRule}
 use Rattle.sift_document.specs.laws.Numbers.{between_at}
 use Rattle.sift_document.specs.laws.OneBroken.{kept_unbroken, one_broken}
 use Rattle.sift_document.specs.laws.ReadEntries.{array_between-long}

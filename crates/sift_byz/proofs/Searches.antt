@@ -4,7 +4,7 @@ use Rattle.std.specs.List.{list_any}
 use Rattle.std.specs.Str.{bytes_eq}
 use Rattle.std.proofs.lemmas.List.{at_drop_all, at_drop_more}
 use Rattle.sift_base.specs.Units.{has}
-use Rattle.sift_byz.specs.declared.plan.Lie.{Lie}
+use Rattle.sift_byz.specs.declared.reading.Lie.{Lie}
 use Rattle.sift_byz.specs.Plan.{first_lie, lie_of, stands_last, tells_some}
 
 -- ---- whether one of some elements passes a test

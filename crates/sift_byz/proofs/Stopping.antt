@@ -7,7 +7,7 @@ use Rattle.sift_base.specs.declared.stop.Stop.{Stop}
 use Rattle.sift_base.specs.declared.stop.Stop.TheVariants as stop
 use Rattle.sift_document.specs.Rules.{AreKept, IsFirstPlace, OfNoEntry, Rule}
 use Rattle.sift_document.specs.Testing.{RefusesFirst}
-use Rattle.sift_document.specs.declared.rule.BrokenRule.{BrokenRule}
+use Rattle.sift_document.specs.declared.entries.BrokenRule.{BrokenRule}
 use Rattle.sift_document.specs.laws.Order.{StopsAt, later, stopped}
 use Rattle.sift_document.specs.laws.Testing.{refused_of_none}
 use Rattle.sift_byz.specs.Lawful.{rules_for, rules_of}

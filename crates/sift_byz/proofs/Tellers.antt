@@ -10,7 +10,7 @@ use Rattle.sift_base.specs.laws.Counts.{count-cons, count-no, count-yes}
 use Rattle.sift_base.specs.laws.Others.{count-others-<, times_in, times_in-ascending}
 use Rattle.sift_base.specs.laws.Ranges.{has-range, range-ascends}
 use Rattle.sift_base.specs.laws.ReadBack.{or_false}
-use Rattle.sift_byz.specs.declared.plan.Lie.{Lie}
+use Rattle.sift_byz.specs.declared.reading.Lie.{Lie}
 use Rattle.sift_byz.specs.Lawful.{BreaksFew}
 use Rattle.sift_byz.specs.Plan.{LieData, lie_of, stands_last, teller_count, tells_some}
 use Rattle.sift_byz.specs.Stated.{IsPath}

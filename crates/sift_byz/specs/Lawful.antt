@@ -3,7 +3,7 @@ use Rattle.std.specs.Prelude.{ℕ, ◌≡◌, ◌+◌, ◌<◌, List, [], ◌∷
 use Rattle.toml.specs.Data.{Data, Members}
 use Rattle.sift_document.specs.Document.{HasOnlyKeys, IsTableOf}
 use Rattle.sift_document.specs.Rules.{HoldsOf, AreKept, BreaksEntries, BreaksFirst, OfNoEntry, Rule, rule}
-use Rattle.sift_document.specs.declared.rule.BrokenRule.{BrokenRule}
+use Rattle.sift_document.specs.declared.entries.BrokenRule.{BrokenRule}
 use Rattle.sift_byz.specs.Plan.{IsInRange, LieData, PlanData, TraitorsAreFew, teller_count}
 use Rattle.sift_byz.specs.Stated.{HasPath, HasReceivers, HasWord, lie_in, lie_keys, lie_limit, lie_value, lies_of, m_of, root_keys, units_of, values_of}
 

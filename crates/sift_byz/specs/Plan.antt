@@ -5,8 +5,8 @@ use Rattle.std.specs.Option.{option_map}
 use Rattle.std.specs.Str.{bytes_eq}
 use Rattle.sift_base.specs.Units.{has}
 use Rattle.sift_vote.specs.Majority.{agreed_of}
-use Rattle.sift_byz.specs.declared.plan.ByzPlan.{ByzPlan}
-use Rattle.sift_byz.specs.declared.plan.Lie.{Lie}
+use Rattle.sift_byz.specs.declared.reading.ByzPlan.{ByzPlan}
+use Rattle.sift_byz.specs.declared.reading.Lie.{Lie}
 use Rattle.sift_byz.specs.Relaying.{Hearing, result_of}
 
 -- ---- plans

@@ -7,7 +7,7 @@ ghost use Rattle.sift_byz.specs.Charts.{AreRelayed, HasRelays, HasResults, Shows
 ghost use Rattle.sift_byz.specs.Plan.{IsInRange, all_units, entry, first_lie, lie_of, plan_of, vector, vectors_of};
 ghost use Rattle.sift_byz.specs.Relaying.{outside};
 
-use crate::plan::{ByzPlan, Lie};
+use crate::reading::{ByzPlan, Lie};
 use crate::vectors::Vectors;
 use arrayvec::ArrayVec;
 use sift_agree::agree;

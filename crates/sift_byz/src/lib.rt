@@ -3,21 +3,15 @@
 #![tactic(auto)]
 
 mod exchanging;
-mod law;
 mod lies;
-mod plan;
 mod reading;
-mod text;
-mod value;
 mod vectors;
 
 pub use exchanging::exchange;
-pub use law::{
-    any_unit_is_agreed_on, loyal_unit_is_believed, loyal_values_are_kept, one_plan, one_refusal,
-    one_traitor_is_as_in_flights, plans_are_accepted, premises_are_met, rows,
+pub use reading::{ByzPlan, Lie, read_byz};
+pub use vectors::{
+    Vectors, any_unit_is_agreed_on, loyal_unit_is_believed, loyal_values_are_kept, one_plan,
+    one_refusal, one_traitor_is_as_in_flights, plans_are_accepted, premises_are_met, rows,
     stated_plans_are_lawful, three_are_too_few, vectors_are_equal, vectors_hold_the_entries,
+    vectors_text,
 };
-pub use plan::{ByzPlan, Lie};
-pub use reading::read_byz;
-pub use text::vectors_text;
-pub use vectors::Vectors;

@@ -13,8 +13,7 @@ ghost use Rattle.sift_byz.specs.Plan.{lie_of, most_traitors, most_units};
 ghost use Rattle.sift_byz.specs.Stated.{AreDifferent, AreReceivers, HasPath, HasReceivers, HasWord, IsPath, lie_in, lie_limit, lie_value, lies_of, path_of, to_of};
 ghost use Rattle.sift_byz.specs.Testing.{BreaksEntry, IsLimited, Keeps, MayBe, number_of};
 
-use crate::plan::Lie;
-use crate::value::{digits_at, member_in};
+use crate::reading::{Lie, digits_at, member_in};
 use arrayvec::ArrayVec;
 use sift_base::{Stop, Word, is_ascending};
 use sift_document::{BrokenRule, broken, entries_between, member_of, table_of, word_value};

@@ -1,8 +1,10 @@
-//! The plan that a document states.
+//! The plan that a document states: units with values, and lies.
 
-ghost use Rattle.std.specs.Prelude.{◌≡◌, ◌≤◌, IfErr, IfOk, IfSome, drop, length, map, option_map};
+ghost use Rattle.std.specs.Prelude.{◌≡◌, ◌<◌, ℕ, List, IfSome, IfNone, Some, length, option_map, option_and_then, ◌≤◌, IfErr, IfOk, drop, map};
+ghost use Rattle.toml.specs.Data.{get};
+ghost use Rattle.toml.specs.View.{view, table_view};
+ghost use Rattle.sift_document.specs.Document.{digit_to, digits_to, each_read};
 ghost use Rattle.std.specs.List.{All};
-ghost use Rattle.toml.specs.View.{table_view};
 ghost use Rattle.sift_base.specs.Stop.{IfRefused};
 ghost use Rattle.sift_document.specs.Testing.{OnlyRefuses, RefusesFirst, Tests, TestsEach};
 ghost use Rattle.sift_byz.specs.Lawful.{BreaksFew, IsPlanOf, IsRefusedWith, rules_for, rules_of};
@@ -11,12 +13,77 @@ ghost use Rattle.sift_byz.specs.Testing.{MayBe};
 ghost use Rattle.sift_byz.specs.Stated.{IsPath, lie_in, lie_limit, lies_of, m_of, units_of, values_of};
 
 use crate::lies::{EntryRule, check_each, lie_entries, lies_in};
-use crate::plan::{ByzPlan, Lie};
 use arrayvec::ArrayVec;
 use sift_base::{Stop, Word};
-use sift_document::{BrokenRule, broken, has_only_keys, member_of, number_at, word_array};
+use sift_document::{
+    BrokenRule, broken, digit_to, has_only_keys, member_of, number_at, word_array,
+};
 use std::alloc::Global;
-use toml::Table;
+use toml::{Table, Value};
+
+// ---- the values of an entry
+
+/// The value at a key of a value, if that is a table.
+pub(crate) fn member_in<'a>(value: &'a Value, key: &str) -> Option<&'a Value>
+    ensures { option_map (λ member. view member.now) result ≡ get key.now (view value.now) }
+{
+    match value.as_table() {
+        Some(table) => member_of(table, key),
+        None => None,
+    }
+}
+
+/// The numbers of the string of digits at a key of a value, if there are at most `N`.
+pub(crate) fn digits_at<const N: usize>(value: &Value, key: &str) -> Option<ArrayVec<u8, N>>
+    ensures found { IfSome result (λ digits. option_and_then (digits_to 9) (get key.now (view value.now)) ≡ Some digits.items) }
+    ensures none { IfNone result ((digits : List ℕ) → option_and_then (digits_to 9) (get key.now (view value.now)) ≡ Some digits → N < length digits) }
+{
+    let digits = member_in(value, key)?.as_str()?;
+    digits_in(digits)
+}
+
+/// The numbers of a text of digits, if there are at most `N`.
+fn digits_in<const N: usize>(text: &str) -> Option<ArrayVec<u8, N>>
+    ensures found { IfSome result (λ digits. each_read (digit_to 9) text.now ≡ Some digits.items) }
+    ensures none { IfNone result ((digits : List ℕ) → each_read (digit_to 9) text.now ≡ Some digits → N < length digits) }
+{
+    if N < text.len() {
+        return None;
+    }
+    let mut digits = ArrayVec::new();
+    for byte in text.as_bytes() {
+        digits.push(digit_to(*byte, 9)?);
+    }
+    Some(digits)
+}
+
+// ---- the plan
+
+/// A lie: what the last unit of a path tells in place of what it heard by the path before it.
+#[derive(Drop)]
+pub struct Lie {
+    /// The units that the word came through, in the order in which they told it.
+    pub path: ArrayVec<u8, 3>,
+    /// The units that it is told to.
+    pub to: ArrayVec<u8, 10>,
+    /// The word that is told, or `None` where nothing is.
+    pub value: Option<Word>,
+}
+
+/// Units with values, and the lies of the traitors among them.
+#[derive(Drop)]
+pub struct ByzPlan {
+    /// How many units there are, at most 10.
+    pub units: u8,
+    /// How many of them may lie, at most 2. They relay in as many rounds.
+    pub m: u8,
+    /// Each unit's own value.
+    pub values: ArrayVec<Word, 10>,
+    /// The lies. Of those by one path to one unit the first is told.
+    pub lies: Vec<Lie>,
+}
+
+// ---- reading it
 
 /// The plan that a document states.
 ///

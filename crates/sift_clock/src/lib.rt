@@ -4,9 +4,5 @@
 #![tactic(auto)]
 
 mod correcting;
-mod hearing;
-mod laws;
 
-pub use correcting::{advance, correction};
-pub use hearing::{clock_word, reading, too_far};
-pub use laws::correction_is_the_floor;
+pub use correcting::{advance, clock_word, correction, correction_is_the_floor, reading, too_far};

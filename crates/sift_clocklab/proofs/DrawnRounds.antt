@@ -4,7 +4,7 @@ use Rattle.std.specs.Fn.{iterate}
 use Rattle.std.specs.List.{flat_map, range_with_len}
 use Rattle.std.proofs.lemmas.List.{length-append, length-map}
 use Rattle.std.proofs.lemmas.List.FromFn.{length-range_with_len}
-use Rattle.sift_clocklab.specs.declared.drawing.Drawn.{Drawn}
+use Rattle.sift_clocklab.specs.declared.lab.Drawn.{Drawn}
 use Rattle.sift_clocklab.specs.Laboratory.{faulty_clocks}
 use Rattle.sift_clocklab.specs.Rounds.{run_offsets}
 use Rattle.sift_clocklab.specs.Showing.{Pair, ShowsInTurn, ShowsRounds, pairs_of, pairs_to}

@@ -1,6 +1,6 @@
 -- A number's laboratory has one run with the faulty clocks that are drawn for it.
 use Rattle.std.specs.Prelude.{◌≡◌, ℕ, ℤ}
-use Rattle.sift_clocklab.specs.declared.drawing.Drawn.{Drawn}
+use Rattle.sift_clocklab.specs.declared.lab.Drawn.{Drawn}
 use Rattle.sift_clocklab.specs.Conditions.{AreInRange, IsAdmitted}
 use Rattle.sift_clocklab.specs.Laboratory.{Run}
 use Rattle.sift_clocklab.specs.Showing.{Runs}

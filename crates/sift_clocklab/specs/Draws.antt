@@ -3,7 +3,7 @@ use Rattle.std.specs.Prelude.{◌≡◌, ℕ, zero, suc, ◌+◌, ◌-◌, ◌*�
 use Rattle.std.specs.Fn.{iterate}
 use Rattle.std.specs.List.{range_with_len}
 use Rattle.sift_base.specs.Draw.{after, drawn}
-use Rattle.sift_clocklab.specs.declared.drawing.Drawn.{Drawn}
+use Rattle.sift_clocklab.specs.declared.lab.Drawn.{Drawn}
 use Rattle.sift_clocklab.specs.Laboratory.{Laboratory, Run}
 use Rattle.sift_clocklab.specs.Rounds.{run_offsets}
 use Rattle.sift_clocklab.specs.Showing.{Showing}

@@ -5,18 +5,9 @@ ghost use Rattle.std.specs.List.{range_with_len};
 ghost use Rattle.sift_base.specs.Draw.{after};
 ghost use Rattle.sift_clocklab.specs.Laboratory.{laboratory_of};
 ghost use Rattle.sift_clocklab.specs.Conditions.{AreInRange, IsAdmitted, IsReady, IsRefused};
-ghost use Rattle.sift_clocklab.specs.Draws.{
-  drawn_face,
-  drawn_lab,
-  drift_drawn,
-  noises_drawn,
-  row_place,
-  start_drawn,
-};
+ghost use Rattle.sift_clocklab.specs.Draws.{drawn_face, drawn_lab, drift_drawn, noises_drawn, row_place, start_drawn};
 
-use crate::admitting::admits;
-use crate::drawing::{Drawn, spread};
-use crate::lab::Lab;
+use crate::lab::{Drawn, Lab, admits, spread};
 use sift_base::{Draw, NoMemory};
 use std::alloc::Global;
 

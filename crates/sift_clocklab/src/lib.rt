@@ -4,24 +4,16 @@
 //! show, the working ones stay together.
 #![tactic(auto)]
 
-mod admitting;
-mod drawing;
 mod drawn_lab;
-mod face;
 mod lab;
-mod laws;
 mod printing;
-mod reading;
 mod running;
 
-pub use admitting::admits;
-pub use drawing::Drawn;
 pub use drawn_lab::{LabStop, drawn};
-pub use face::Face;
-pub use lab::{Lab, LabRun};
-pub use laws::{
-    drawn_runs_are_kept, drawn_runs_are_of_the_draws, margin_leaves_room, most_is_within_the_bound,
-    no_fault_leaves_room, offsets_are_kept, one_text_of_a_run,
+pub use lab::{
+    Drawn, Face, Lab, LabRun, admits, drawn_runs_are_kept, drawn_runs_are_of_the_draws,
+    margin_leaves_room, most_is_within_the_bound, no_fault_leaves_room, offsets_are_kept,
+    one_text_of_a_run,
 };
 pub use printing::lab_text;
 pub use running::run_lab;

@@ -1,19 +1,77 @@
-//! Runs of a laboratory.
+//! Runs of a laboratory, round by round, clock by clock.
 
-ghost use Rattle.std.specs.Prelude.{◌≡◌, ℕ, ◌*◌, ◌<◌, ◌≤◌, [], length, map, IfOk, OnErr, vec_len, vec_capacity};
+ghost use Rattle.std.specs.Prelude.{◌≡◌, ◌<◌, map, ℕ, ◌*◌, ◌≤◌, [], length, IfOk, OnErr, vec_len, vec_capacity};
+ghost use Rattle.sift_base.specs.Units.{others};
+ghost use Rattle.sift_clocklab.specs.Laboratory.{laboratory_of, clocks_of, working_of, run_of};
+ghost use Rattle.sift_clocklab.specs.Rounds.{offset_after, reading_of, ticks_ahead, offsets_after};
+ghost use Rattle.sift_clocklab.specs.Conditions.{BothWork, IsReady};
+ghost use Rattle.sift_clocklab.specs.Skew.{AreKept, IsRound, farthest, IsKept};
 ghost use Rattle.std.specs.List.{All};
-ghost use Rattle.sift_clocklab.specs.Laboratory.{laboratory_of, run_of, working_of};
-ghost use Rattle.sift_clocklab.specs.Conditions.{IsReady};
-ghost use Rattle.sift_clocklab.specs.Rounds.{offsets_after};
 ghost use Rattle.sift_clocklab.specs.Showing.{Runs, ShowsInTurn, pairs_of};
-ghost use Rattle.sift_clocklab.specs.Skew.{IsKept, IsRound};
 ghost use Rattle.sift_clocklab.specs.Pages.{IsBlank, IsStarting};
 
-use crate::face::Face;
-use crate::lab::{Lab, LabRun};
-use crate::reading::offset_after;
+use crate::lab::{Face, Lab, LabRun};
+use arrayvec::ArrayVec;
 use sift_base::NoMemory;
+use sift_clock::{advance, correction};
 use std::alloc::Global;
+
+// ---- one round of a working clock
+
+/// What the working clock `own` reads of another one that works: how far it is ahead, misread.
+fn ahead(lab: &Lab, offsets: &[i64], own: u8, other: u8) -> i32
+    requires ready { IsReady (laboratory_of lab.now) }
+    requires kept { AreKept (laboratory_of lab.now) farthest offsets.now }
+    requires working { BothWork (laboratory_of lab.now) own other }
+    ensures { result ≡ ticks_ahead (laboratory_of lab.now) offsets.now own other }
+{
+    let difference = offsets[usize::from(other)] - offsets[usize::from(own)];
+    (difference + i64::from(lab.noise_between(own, other))) as i32
+}
+
+/// What the working clock `own` reads of another.
+fn reading(lab: &Lab, offsets: &[i64], shown: &[Option<i32>], own: u8, other: u8) -> Option<i32>
+    requires round { IsRound (laboratory_of lab.now) offsets.now shown.now }
+    requires own { own < working_of (laboratory_of lab.now) }
+    requires other { other < lab.now.n }
+    ensures { result ≡ reading_of (laboratory_of lab.now) offsets.now shown.now own other }
+{
+    let working = lab.working();
+    if other < working {
+        Some(ahead(lab, offsets, own, other))
+    } else {
+        shown[usize::from(own) * usize::from(lab.m) + usize::from(other - working)]
+    }
+}
+
+/// What a working clock reads of all others, in their order.
+fn readings(lab: &Lab, offsets: &[i64], shown: &[Option<i32>], own: u8) -> ArrayVec<Option<i32>, 32>
+    requires round { IsRound (laboratory_of lab.now) offsets.now shown.now }
+    requires own { own < working_of (laboratory_of lab.now) }
+    ensures { result.items ≡ map (reading_of (laboratory_of lab.now) offsets.now shown.now own)
+        (others own (clocks_of (laboratory_of lab.now))) }
+{
+    let mut readings = ArrayVec::new();
+    for other in 0..lab.n {
+        if other != own {
+            readings.push(reading(lab, offsets, shown, own, other));
+        }
+    }
+    readings
+}
+
+/// The offset of a working clock after a round.
+fn offset_after(lab: &Lab, offsets: &[i64], shown: &[Option<i32>], own: u8) -> i64
+    requires round { IsRound (laboratory_of lab.now) offsets.now shown.now }
+    requires own { own < working_of (laboratory_of lab.now) }
+    ensures { result ≡ offset_after (laboratory_of lab.now) offsets.now shown.now own }
+{
+    let mean = correction(&readings(lab, offsets, shown, own), lab.limit(), lab.n);
+    let at = usize::from(own);
+    advance(offsets[at], mean, lab.drift[at])
+}
+
+// ---- runs
 
 /// Runs a laboratory: the working clocks correct one another round by round, while the faulty ones show
 /// what the face says. All memory is taken before the face is called.
@@ -23,6 +81,7 @@ pub fn run_lab<F: Face>(alloc: Global, lab: &Lab, face: &mut F) -> Result<LabRun
     ensures kept { IfOk result (λ run. IsKept (laboratory_of lab.now) (run_of run).offsets) }
     ensures untouched { OnErr result (face.new ≡ face.old) }
 {
+    // All memory is taken before the first round, so where it is wanting no clock has shown anything.
     let mut run = starting_run(alloc, lab)?;
     let mut pages = blank_pages(alloc, lab)?;
     while let Some(page) = pages.pop() {

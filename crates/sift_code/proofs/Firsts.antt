@@ -2,7 +2,7 @@
 use Rattle.std.proofs.Common.{◌≡◌, ℕ, ◌<◌, ◌≤◌, length, sym, subst, arith, inl, inr}
 use Rattle.std.specs.Prelude.{◌≢◌, ◌⊎◌, ◌==◌, true, false}
 use Rattle.std.proofs.lemmas.Bool.Decides.{eqb_tells}
-use Rattle.sift_code.specs.declared.bad.Bad.{Bad}
+use Rattle.sift_code.specs.declared.refusal.Bad.{Bad}
 use Rattle.sift_code.specs.Refusal.{Program, Refuses, place_of, IsFree, IsFirst}
 
 -- a refusal at a place before which nothing offends

@@ -6,8 +6,8 @@ use Rattle.std.proofs.lemmas.List.{get_or-set_same, get_or-set_other, length-set
 use Rattle.std.proofs.lemmas.Option.{slice_get_within}
 use Rattle.sift_code.specs.declared.instr.Instr.{Instr}
 use Rattle.sift_code.specs.declared.instr.Instr.TheVariants.{JumpZ, Jump, Begin, End}
-use Rattle.sift_code.specs.declared.walk.Brought.{Brought}
-use Rattle.sift_code.specs.declared.walk.Walk.{Walk}
+use Rattle.sift_code.specs.declared.nest.Brought.{Brought}
+use Rattle.sift_code.specs.declared.nest.Walk.{Walk}
 use Rattle.sift_code.specs.Machine.{through_end}
 use Rattle.sift_code.specs.Enclosing.{opened_by, enclosing}
 use Rattle.sift_code.specs.Heights.{Arrival, Trail, trail_at, height_at, height_after, pops, pushes, next_height, height_behind, behind_jump, brought_by, brought_to}

@@ -5,7 +5,7 @@ use Rattle.std.specs.List.{All}
 use Rattle.std.proofs.lemmas.Bool.Decides.{eqb_tells}
 use Rattle.std.proofs.lemmas.List.Elements.{All-head, All-tail, All-cons, All-nil}
 use Rattle.std.proofs.lemmas.Option.{slice_get-get_or}
-use Rattle.sift_code.specs.declared.walk.Brought.{Brought}
+use Rattle.sift_code.specs.declared.nest.Brought.{Brought}
 use Rattle.sift_code.specs.declared.instr.Instr.{Instr}
 use Rattle.sift_code.specs.Heights.{height_at, heights_brought}
 use Rattle.sift_code.specs.Refusal.{IsUnequal, IsUnequalEnd}

@@ -1,7 +1,7 @@
 -- How code is kept with its loops. No public clause cites this module.
 use Rattle.std.specs.Prelude.{◌≡◌, ℕ, ◌+◌, ◌<◌, ◌≤◌, ◌^◌, List, length, Option, Some, None, map, drop, slice_index_or}
 use Rattle.sift_code.specs.declared.instr.Instr.{Instr}
-use Rattle.sift_code.specs.declared.source.Source.{Source}
+use Rattle.sift_code.specs.declared.instr.Source.{Source}
 use Rattle.sift_code.specs.Machine.{through_end}
 use Rattle.sift_code.specs.Sources.{source_of}
 use Rattle.sift_code.specs.Enclosing.{enclosing, innermost}

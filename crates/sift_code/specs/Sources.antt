@@ -3,7 +3,7 @@ use Rattle.std.specs.Prelude.{◌≡◌, ℕ, List, [], ◌∷◌, length, map, 
 use Rattle.std.specs.Borrow.{Bor}
 use Rattle.sift_code.specs.declared.instr.Instr.{Instr}
 use Rattle.sift_code.specs.declared.instr.Instr.TheVariants.{Push, Sense, Now, Last}
-use Rattle.sift_code.specs.declared.source.Source.{Source}
+use Rattle.sift_code.specs.declared.instr.Source.{Source}
 use Rattle.sift_code.specs.Machine.{Inputs}
 
 -- a word of the instruction's own is added to the 0 of list 0; the others are read from the lists of what was sensed or voted

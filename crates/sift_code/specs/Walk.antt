@@ -2,8 +2,8 @@
 use Rattle.std.specs.Prelude.{◌≡◌, ℕ, ◌+◌, ◌≤◌, ◌==◌, true, ◌&&◌, List, [], ◌∷◌, length, Option, Some, None, slice_index, slice_index_or}
 use Rattle.sift_code.specs.declared.instr.Instr.{Instr}
 use Rattle.sift_code.specs.declared.instr.Instr.TheVariants.{Jump}
-use Rattle.sift_code.specs.declared.walk.Brought.{Brought}
-use Rattle.sift_code.specs.declared.walk.Walk.{Walk}
+use Rattle.sift_code.specs.declared.nest.Brought.{Brought}
+use Rattle.sift_code.specs.declared.nest.Walk.{Walk}
 use Rattle.sift_code.specs.Enclosing.{enclosing}
 use Rattle.sift_code.specs.Heights.{height_at, stack_through, trail_at, brought_to, Arrival}
 

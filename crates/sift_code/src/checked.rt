@@ -1,15 +1,15 @@
-//! Checked code, and the verifier that makes it.
+//! Checked code, the verifier that makes it, and the laws of both.
 
 ghost use Rattle.std.specs.Prelude.{◌≡◌, ◌≢◌, ◌<◌, ◌≤◌, ◌^◌, length, IfOk, IfErr, IsOk};
-ghost use Rattle.sift_code.specs.Refusal.{IsSound, IsFirst, within, program_of};
+ghost use Rattle.sift_code.specs.Refusal.{IsSound, IsFirst, within, program_of, Program};
 ghost use Rattle.sift_code.specs.Heights.{stack_through};
 ghost use Rattle.sift_code.specs.Bound.{bound_of, kept};
+ghost use Rattle.sift_code.specs.Ends.{Ends};
 
-use crate::bad::Bad;
-use crate::instr::Instr;
-use crate::limits::Limits;
-use crate::nest::Nest;
-use crate::walk::Walk;
+use crate::instr::{Instr, Limits};
+use crate::machine::WORK_WORDS;
+use crate::nest::{Nest, Walk};
+use crate::refusal::Bad;
 use arrayvec::ArrayVec;
 use std::alloc::Global;
 use std::marker::Model;
@@ -138,3 +138,15 @@ fn bound(nest: &Nest, limits: &Limits) -> u32
     }
     bound
 }
+
+// ---- laws
+
+/// Code in which no place offends comes to its end within its bound, whatever the words that it reads.
+pub fn checked_code_ends()
+    ensures { (program : Program) → IsSound program → Ends program }
+{}
+
+/// A span of 352 words is room for any run: 256 of the stack, 32 locals, and twice as many as loops may be open.
+pub fn runs_have_room_in_352_words()
+    ensures { WORK_WORDS ≡ 352 }
+{}

@@ -21,8 +21,8 @@ use Rattle.sift_judge_jobs.specs.Judge.{judge_duty, judge_statuses}
 use Rattle.sift_judge_jobs.specs.declared.judge.JudgeJob.{JudgeJob}
 use Rattle.sift_lab_jobs.specs.Byz.{byz_duty, byz_statuses}
 use Rattle.sift_lab_jobs.specs.Clocks.{clocks_duty, clocks_statuses}
-use Rattle.sift_lab_jobs.specs.declared.byz.ByzJob.{ByzJob}
-use Rattle.sift_lab_jobs.specs.declared.clocks.ClocksJob.{ClocksJob}
+use Rattle.sift_lab_jobs.specs.declared.labs.ByzJob.{ByzJob}
+use Rattle.sift_lab_jobs.specs.declared.labs.ClocksJob.{ClocksJob}
 use Rattle.sift_load.specs.Loads.{mission_duty, no_mission_statuses}
 use Rattle.sift_mission.specs.Data.{MissionData}
 use Rattle.sift_reply.specs.Duty.{GivesOne, GivesOneTo, HasOwnStatuses}

@@ -1,24 +1,35 @@
--- The headline of a run, as a clause of the whole call.
+-- What the report of a run tells, as clauses of the whole call.
 use Rattle.std.specs.Prelude.{ℕ, ◌≡◌, List}
 use Rattle.sift_flight.specs.Flight.{Strays}
 use Rattle.sift_io.specs.Reading.{TakesAll}
-use Rattle.sift_jobs.specs.Run.{IsHeadlined}
+use Rattle.sift_jobs.specs.Run.{IsReported}
 use Rattle.sift_jobs.specs.declared.run.RunJob.{RunJob}
+use Rattle.sift_line.specs.declared.line.ReportLine.{ReportLine}
 use Rattle.sift_load.specs.Loads.{document_limit}
 use Rattle.sift_mission.specs.Data.{MissionData}
 use Rattle.sift_reply.specs.Reply.{Input, IsWritten, Output, done_status}
 use Rattle.sift_reply.specs.Promise.{IsAnswered}
+use Rattle.sift_report.specs.Caught.{ReportCaught}
+use Rattle.sift_report.specs.Headline.{ReportHeadline}
 use Rattle.sift_commands.specs.Command.{Asks, commands}
 use Rattle.sift_commands.specs.declared.command.Command.TheVariants.{Run}
 
 module _ (given : MissionData → Strays → Type 0) where
   -- where words ask for a run and the status is 0, the input was read to its end, a text was written, and it is the report, in the version
-  -- asked for, of a flight of the mission that the input states, whose lines have the headline
-  abbrev pub IsHeadlineWritten : List (List ℕ) → Input → Output → (status : ℕ) → Type 0
-  IsHeadlineWritten words input output status = (job : RunJob) → Asks words (Run job) → status ≡ done_status →
-      (bytes text : List ℕ) × TakesAll input.before input.after bytes document_limit × IsHeadlined given job.version bytes text × IsWritten output text
+  -- asked for, of a flight of the mission that the input states; and this holds of the mission and the report's lines
+  abbrev pub IsReportWritten : (MissionData → List ReportLine → Type 0) → List (List ℕ) → Input → Output → (status : ℕ) → Type 0
+  IsReportWritten Holds words input output status = (job : RunJob) → Asks words (Run job) → status ≡ done_status →
+      (bytes text : List ℕ) × TakesAll input.before input.after bytes document_limit × IsReported given Holds job.version bytes text × IsWritten output text
 
-  -- it follows from the promise
-  abbrev pub HeadlineIsWritten : Type 0
-  HeadlineIsWritten = (words : List (List ℕ)) (input : Input) (output : Output) (status : ℕ) → IsAnswered (commands given) words input output status
-      → IsHeadlineWritten words input output status
+  -- so the headline does
+  abbrev pub IsHeadlineWritten : List (List ℕ) → Input → Output → (status : ℕ) → Type 0
+  IsHeadlineWritten = IsReportWritten ReportHeadline
+
+  -- and so does what lies cost
+  abbrev pub IsCaughtWritten : List (List ℕ) → Input → Output → (status : ℕ) → Type 0
+  IsCaughtWritten = IsReportWritten ReportCaught
+
+  -- both follow from the promise
+  abbrev pub ReportIsWritten : (MissionData → List ReportLine → Type 0) → Type 0
+  ReportIsWritten Holds = (words : List (List ℕ)) (input : Input) (output : Output) (status : ℕ) → IsAnswered (commands given) words input output status
+      → IsReportWritten Holds words input output status

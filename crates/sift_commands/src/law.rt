@@ -1,8 +1,10 @@
 //! The laws of the commands.
 
 ghost use Rattle.sift_reply.specs.Laws.{ShareNoStatus};
+ghost use Rattle.sift_report.specs.Caught.{ReportCaught};
+ghost use Rattle.sift_report.specs.Headline.{ReportHeadline};
 ghost use Rattle.sift_commands.specs.Command.{OneCommand, commands};
-ghost use Rattle.sift_commands.specs.Headline.{HeadlineIsWritten};
+ghost use Rattle.sift_commands.specs.Headline.{ReportIsWritten};
 ghost use Rattle.sift_commands.specs.OneReply.{CommandsGiveOne, WorkersDoNotShow};
 ghost use Rattle.sift_commands.specs.Stated.{MissionsAreAnswered, MissionsEndWell};
 ghost use Rattle.sift_commands.specs.Statuses.{CommandsHaveOwnStatuses, StatusesAreKnown};
@@ -12,8 +14,8 @@ use sift_bus_jobs::{BusFlier, buses_gives_one, buses_has_own_statuses};
 use sift_jobs::{
     Flier, FlightOrder, check_gives_one, check_has_own_statuses, gen_gives_one,
     gen_has_own_statuses, ideal_gives_one, ideal_has_own_statuses, plan_gives_one,
-    plan_has_own_statuses, run_gives_one, run_has_own_statuses, run_is_headlined, trial_gives_one,
-    trial_has_own_statuses, votes_gives_one, votes_has_own_statuses,
+    plan_has_own_statuses, run_gives_one, run_has_own_statuses, run_is_headlined, run_tells_caught,
+    trial_gives_one, trial_has_own_statuses, votes_gives_one, votes_has_own_statuses,
 };
 use sift_judge_jobs::{judge_gives_one, judge_has_own_statuses};
 use sift_lab_jobs::{
@@ -75,12 +77,22 @@ pub fn workers_do_not_show<F: Flier + BusFlier>()
 
 /// The headline is a consequence of the promise.
 pub fn the_headline_is_written<F: Flier + BusFlier>()
-    ensures { (flier : F) → HeadlineIsWritten (F.gives flier) }
+    ensures { (flier : F) → ReportIsWritten (F.gives flier) ReportHeadline }
 {
     one_command();
     commands_have_own_statuses::<F>();
     statuses_are_explained::<F, FlightOrder<F>, Command>();
     run_is_headlined::<F>();
+}
+
+/// And so is what lies cost.
+pub fn the_caught_are_written<F: Flier + BusFlier>()
+    ensures { (flier : F) → ReportIsWritten (F.gives flier) ReportCaught }
+{
+    one_command();
+    commands_have_own_statuses::<F>();
+    statuses_are_explained::<F, FlightOrder<F>, Command>();
+    run_tells_caught::<F>();
 }
 
 /// Which command may end with which status.

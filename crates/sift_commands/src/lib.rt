@@ -9,5 +9,5 @@ mod verb;
 pub use command::Command;
 pub use law::{
     commands_give_one, commands_have_own_statuses, missions_are_answered, one_command,
-    statuses_are_known, the_headline_is_written, workers_do_not_show,
+    statuses_are_known, the_caught_are_written, the_headline_is_written, workers_do_not_show,
 };

@@ -4,7 +4,7 @@ use Rattle.sift_code.specs.declared.instr.Instr.{Instr}
 use Rattle.sift_code.specs.declared.instr.Instr.TheVariants.{JumpZ, Jump, Begin, End}
 use Rattle.sift_lang.specs.Tree.{Term, Statement, choose, choose_else, repeat, Block, step}
 use Rattle.sift_code.specs.Bound.{kept}
-use Rattle.sift_compile.specs.declared.stop.TheConstants.{CODE_LIMIT}
+use Rattle.sift_compile.specs.declared.compiler.TheConstants.{CODE_LIMIT}
 use Rattle.sift_compile.specs.Code.{term_code, behind, statement_code, block_code}
 use Rattle.sift_compile.specs.Length.{term_length, statement_length, block_length, IsSoundFor, AreSoundFor}
 use Rattle.sift_compile.proofs.Lengths.{length-term_code, length-block_code}

@@ -1,8 +1,8 @@
 -- Sound code is refused for want of memory alone.
 use Rattle.std.proofs.Common.{◌≡◌, refl}
 use Rattle.std.specs.Prelude.{◌≢◌}
-use Rattle.sift_code.specs.declared.bad.Bad.{Bad}
-use Rattle.sift_code.specs.declared.bad.Bad.TheVariants.{BadJump, Underflow, Unequal, TooDeep, BadOperand, NoMemory}
+use Rattle.sift_code.specs.declared.refusal.Bad.{Bad}
+use Rattle.sift_code.specs.declared.refusal.Bad.TheVariants.{BadJump, Underflow, Unequal, TooDeep, BadOperand, NoMemory}
 use Rattle.sift_code.specs.Refusal.{Program, IsSound, IsFirst}
 
 -- a refusal of sound code is want of memory, where it would else name the first place that offends

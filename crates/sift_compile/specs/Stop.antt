@@ -3,8 +3,8 @@ use Rattle.std.specs.Prelude.{◌≡◌, ℕ, ◌<◌, ◌≤◌, List, length}
 use Rattle.sift_code.specs.declared.instr.Instr.{Instr}
 use Rattle.sift_code.specs.Bound.{bound_of, kept}
 use Rattle.sift_compile.specs.Length.{code_limit}
-use Rattle.sift_compile.specs.declared.stop.CompileStop.{CompileStop}
-use Rattle.sift_compile.specs.declared.stop.CompileStop.TheVariants.{CodeTooLong, TooManySteps, NoMemory}
+use Rattle.sift_compile.specs.declared.compiler.CompileStop.{CompileStop}
+use Rattle.sift_compile.specs.declared.compiler.CompileStop.TheVariants.{CodeTooLong, TooManySteps, NoMemory}
 
 -- the code is short enough, and its bound is within the budget
 pub record IsAllowed (budget : ℕ) (code : List Instr) : Type 0 where

@@ -1,21 +1,48 @@
-//! The compiler: code of a task, within the limits.
+//! The compiler: code of a task within the limits, or why there is none.
 
 ghost use Rattle.std.specs.Prelude.{◌≡◌, ◌<◌, ◌≤◌, length, Err, IsOk, IfOk, IfErr};
 ghost use Rattle.sift_code.specs.Bound.{kept};
 ghost use Rattle.sift_lang.specs.Tree.{tree_of};
 ghost use Rattle.sift_lang.specs.Sound.{IsSound};
 ghost use Rattle.sift_compile.specs.Code.{task_code, task_program};
-ghost use Rattle.sift_compile.specs.Correct.{IsMeasured, Means};
+ghost use Rattle.sift_compile.specs.Correct.{IsMeasured, Means, CodeIsSound, CodeMeansItsTask};
 ghost use Rattle.sift_compile.specs.Length.{code_limit};
 ghost use Rattle.sift_compile.specs.Stop.{IsAllowed, Stops};
 
-use crate::emit::emit_block;
-use crate::length::block_length;
-use crate::stop::{CODE_LIMIT, CompileStop};
+use crate::emit::{block_length, emit_block};
 use sift_base::NoMemory;
 use sift_code::{Bad, Checked, verify};
 use sift_lang::Task;
 use std::alloc::Global;
+
+// ---- why a task has no code
+
+/// The most instructions of a task's code.
+pub const CODE_LIMIT: u32 = 1024;
+
+/// Why a task isn't compiled.
+#[derive(Clone, Copy)]
+pub enum CompileStop {
+    /// The code has more than 1,024 instructions: so many, or 4294967295 where there are more.
+    CodeTooLong { len: u32 },
+    /// A run may take more instructions than the budget: so many, or 4294967295 where there are more.
+    TooManySteps { bound: u32 },
+    /// An allocation failed. It says nothing of the task.
+    NoMemory,
+}
+
+impl From<NoMemory> for CompileStop {
+    ghost use Rattle.std.specs.Prelude.{◌≡◌};
+    ghost use Rattle.sift_compile.specs.declared.compiler.CompileStop.TheVariants.{NoMemory};
+
+    ghost from_gives = { λ _ stop. stop ≡ NoMemory };
+
+    fn from(_: NoMemory) -> Self {
+        CompileStop::NoMemory
+    }
+}
+
+// ---- the compiler
 
 /// Compiles a task, which may name so many sensors and voted words.
 ///
@@ -75,3 +102,15 @@ fn no_memory(bad: Bad) -> NoMemory
         _ => unreachable!(),
     }
 }
+
+// ---- laws
+
+/// The code of a sound task is sound, so `verify` never refuses it.
+pub fn compiled_code_is_sound()
+    ensures { CodeIsSound }
+{}
+
+/// The code of a sound task means the task: its run gives what the task means.
+pub fn compiled_code_means_its_task()
+    ensures { CodeMeansItsTask }
+{}

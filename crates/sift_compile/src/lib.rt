@@ -5,10 +5,7 @@
 
 mod compiler;
 mod emit;
-mod law;
-mod length;
-mod stop;
 
-pub use compiler::compile;
-pub use law::{compiled_code_is_sound, compiled_code_means_its_task};
-pub use stop::{CODE_LIMIT, CompileStop};
+pub use compiler::{
+    CODE_LIMIT, CompileStop, compile, compiled_code_is_sound, compiled_code_means_its_task,
+};

@@ -1,6 +1,6 @@
 -- What a board guarantees of its unit's acts, for any port: which words it says and hears, with which stamps, and when.
 use Rattle.std.specs.Prelude.{◌≡◌, ◌⊎◌, ℕ, ◌+◌, ◌*◌, ◌-◌, ◌<◌, ◌≤◌, List, true, Option, None, Some, option_map, option_and_then, if◌then◌else◌}
-use Rattle.sift_base.specs.declared.slot.Slot.{Slot}
+use Rattle.sift_base.specs.declared.slots.Slot.{Slot}
 use Rattle.sift_buffer.specs.Conduct.{Saying, Hearing, saying, never}
 use Rattle.sift_buffer.specs.Conduct.{Conduct as Acts}
 use Rattle.sift_mission.specs.Data.{FlownMission, IsConfigOf}

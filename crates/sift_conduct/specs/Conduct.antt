@@ -2,12 +2,12 @@
 -- frame before.
 use Rattle.std.specs.Prelude.{ℕ, List, Bool, Option, ℤ, ◌≡◌, ◌<◌, length, map, slice_index, false, not, ◌&&◌, nat_eq, if◌then◌else◌, None, Some, unwrap_or, ◌+ℤ◌}
 use Rattle.std.specs.List.{list_any, range_with_len}
-use Rattle.sift_base.specs.declared.slot.Slot.{Slot}
+use Rattle.sift_base.specs.declared.slots.Slot.{Slot}
 use Rattle.sift_base.specs.Units.{holds, has, has_bit, bits_of}
 use Rattle.sift_exec.specs.Conviction.{everyone_in, next_by}
 use Rattle.sift_exec.specs.declared.catches.Catches.{Catches}
 use Rattle.sift_base.specs.Word.{word_of}
-use Rattle.sift_base.specs.declared.slot.Slot.TheVariants.{Clock, Sense, RelaySense, Out, Report, RelayReport}
+use Rattle.sift_base.specs.declared.slots.Slot.TheVariants.{Clock, Sense, RelaySense, Out, Report, RelayReport}
 use Rattle.sift_vote.specs.Majority.{majority_of, agreed_of, differs}
 use Rattle.sift_agree.specs.Agreement.{taken}
 use Rattle.sift_config.specs.Config.{reader_of}

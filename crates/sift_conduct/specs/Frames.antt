@@ -1,7 +1,7 @@
 -- A unit's conduct from frame to frame.
 use Rattle.std.specs.Prelude.{◌≡◌, ℕ, zero, suc, List, [], true, false, Option, None, Some, min}
 use Rattle.sift_base.specs.Units.{has}
-use Rattle.sift_base.specs.declared.slot.Slot.{Slot}
+use Rattle.sift_base.specs.declared.slots.Slot.{Slot}
 use Rattle.sift_exec.specs.Conviction.{nobody}
 use Rattle.sift_mission.specs.Data.{FlownMission}
 use Rattle.sift_mission.specs.Slots.{has_turned}

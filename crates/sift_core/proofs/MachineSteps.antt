@@ -5,7 +5,7 @@ use Rattle.std.proofs.lemmas.List.{get_or-set_same, get_or-set_other, get_or_def
 use mathlib.Core.Logic.{dite}
 use native.Mathlib.Decide.{ℕ_discrete}
 use Rattle.sift_base.specs.Units.{has}
-use Rattle.sift_base.specs.declared.layout.Layout.{Layout}
+use Rattle.sift_base.specs.declared.slots.Layout.{Layout}
 use Rattle.sift_config.specs.Config.{first_units}
 use Rattle.sift_buffer.specs.Ranges.{Ranges}
 use Rattle.sift_buffer.specs.Conduct.{Conduct}
@@ -27,7 +27,7 @@ use Rattle.sift_unit.specs.Boards.{desk_of, Drives, IsPortOf}
 use Rattle.sift_unit.specs.Keeping.{KeepsAs}
 use Rattle.sift_unit.specs.Stepping.{Steps}
 use Rattle.sift_unit.specs.declared.board.Board.{Board}
-use Rattle.sift_unit.specs.declared.stepped.Stepped.{Stepped}
+use Rattle.sift_unit.specs.declared.board.Stepped.{Stepped}
 use Rattle.sift_core.specs.Machines.{Flies, IsFlying, board_at, layout_of}
 use Rattle.sift_core.specs.Steps.{StepsUnit}
 use Rattle.sift_core.specs.declared.machine.Machine.{Machine}

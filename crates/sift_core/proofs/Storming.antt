@@ -6,7 +6,7 @@ use Rattle.std.proofs.lemmas.Option.{same_Some}
 use mathlib.Core.Logic.{dite}
 use native.Mathlib.Decide.{ℕ_discrete}
 use Rattle.sift_base.specs.Units.{has, unit_limit}
-use Rattle.sift_base.specs.declared.layout.Layout.{Layout}
+use Rattle.sift_base.specs.declared.slots.Layout.{Layout}
 use Rattle.sift_buffer.specs.Conduct.{Stray}
 use Rattle.sift_buffer.specs.Ranges.{IsCell}
 use Rattle.sift_buffer.specs.Tables.{ranges_of}
@@ -16,15 +16,15 @@ use Rattle.sift_buffer.specs.Racks.{ranges_for}
 use Rattle.sift_buffer.specs.declared.rack.Rack.{Rack}
 use Rattle.sift_config.specs.laws.FirstUnits.{low_unit, unit_low}
 use Rattle.sift_rogue.specs.Storms.{Call, Started, Shoots, sifted, stray_of, StormsBy}
-use Rattle.sift_rogue.specs.declared.act.Shot.{Shot}
+use Rattle.sift_rogue.specs.declared.rogue.Shot.{Shot}
 use Rattle.sift_script.specs.declared.script.StormEntry.{StormEntry}
 use Rattle.sift_mission.specs.Data.{MissionData}
 use Rattle.sift_mission.specs.Flown.{flown}
 use Rattle.sift_flight.specs.Flight.{Strays, no_strays, IsRound}
 use Rattle.sift_flight.specs.Told.{told}
 use Rattle.sift_flight.specs.declared.flight.Flight.{Flight}
-use Rattle.sift_unit.specs.declared.stepped.Stepped.{Stepped}
-use Rattle.sift_unit.specs.declared.stepped.Stepped.TheVariants.{Moved, NotYet, Turned, Landed}
+use Rattle.sift_unit.specs.declared.board.Stepped.{Stepped}
+use Rattle.sift_unit.specs.declared.board.Stepped.TheVariants.{Moved, NotYet, Turned, Landed}
 use Rattle.sift_core.specs.Machines.{Flies, IsFlying, HasTurnedIn, layout_of, progress_at}
 use Rattle.sift_core.specs.Steps.{StepsUnit, Stores}
 use Rattle.sift_core.specs.Courses.{AreAllLeft, Course, IsCalled, BeginsStorm, Spends, calls_of, course, storm_at}

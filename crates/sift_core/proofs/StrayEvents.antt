@@ -1,7 +1,7 @@
 -- A stray that is stored, as an event of a rack.
 use Rattle.std.proofs.Common.{◌≡◌, ℕ, ◌<◌, [], ◌∷◌, length, slice_index_or, ⊎_elim, Vec, sym, ap, ◌∙◌, subst, arith}
 use Rattle.std.specs.declared.alloc.Global.{Global}
-use Rattle.sift_base.specs.declared.layout.Layout.{Layout}
+use Rattle.sift_base.specs.declared.slots.Layout.{Layout}
 use Rattle.sift_config.specs.Config.{first_units}
 use Rattle.sift_buffer.specs.Ranges.{Ranges, IsCell}
 use Rattle.sift_buffer.specs.Conduct.{Conduct, Stray, never}

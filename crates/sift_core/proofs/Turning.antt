@@ -14,8 +14,8 @@ use Rattle.sift_mission.specs.Data.{MissionData, FlownMission}
 use Rattle.sift_mission.specs.Flown.{flown}
 use Rattle.sift_unit.specs.Boards.{desk_of}
 use Rattle.sift_unit.specs.Passing.{distance}
-use Rattle.sift_unit.specs.declared.stepped.Stepped.{Stepped}
-use Rattle.sift_unit.specs.declared.stepped.Stepped.TheVariants.{Moved, NotYet, Turned, Landed}
+use Rattle.sift_unit.specs.declared.board.Stepped.{Stepped}
+use Rattle.sift_unit.specs.declared.board.Stepped.TheVariants.{Moved, NotYet, Turned, Landed}
 use Rattle.sift_unit.specs.declared.board.Board.{Board}
 use Rattle.sift_core.specs.Machines.{IsFlying, layout_of, progress_at, distances}
 use Rattle.sift_core.specs.Steps.{IsWaiting, StepsUnit, Stores}

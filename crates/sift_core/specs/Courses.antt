@@ -6,10 +6,10 @@ use Rattle.sift_mission.specs.Data.{MissionData}
 use Rattle.sift_mission.specs.Flown.{flown}
 use Rattle.sift_script.specs.Faults.{storm_of}
 use Rattle.sift_script.specs.declared.script.StormEntry.{StormEntry}
-use Rattle.sift_rogue.specs.declared.act.Shot.{Shot}
+use Rattle.sift_rogue.specs.declared.rogue.Shot.{Shot}
 use Rattle.sift_rogue.specs.Storms.{Call, Started, Shoots, sifted, stray_of}
-use Rattle.sift_unit.specs.declared.stepped.Stepped.{Stepped}
-use Rattle.sift_unit.specs.declared.stepped.Stepped.TheVariants.{Moved, NotYet, Turned, Landed}
+use Rattle.sift_unit.specs.declared.board.Stepped.{Stepped}
+use Rattle.sift_unit.specs.declared.board.Stepped.TheVariants.{Moved, NotYet, Turned, Landed}
 use Rattle.sift_core.specs.Machines.{distances, layout_of}
 use Rattle.sift_core.specs.Steps.{StepsUnit, Stores}
 use Rattle.sift_core.specs.declared.machine.Machine.{Machine}
@@ -54,7 +54,14 @@ pub record IsCalled {R : Type 0} (by : R → R → Type 0) (u : ℕ) (xs : List 
   pub left_is : left' ≡ slice_set left u (slice_index left u - 1)
 
 module _ {R : Type 0} (allows : R → Call → R → Type 0) where
-  -- the storm of unit u began: its rogue was called by the number of its storm
+  -- the storm of unit u began, which has so many strays: its rogue, which was x, was called by the number of its storm, and now is y
+  pub record IsBegun (d : MissionData) (u : ℕ) (x : R) (strays : ℕ) (y : R) : Type 0 where
+    pub storm : StormEntry
+    pub storm_is : storm_at d u ≡ Some storm
+    pub start : allows x (Started storm.number) y
+    pub strays_are : strays ≡ storm.strays
+
+  -- the same in a course: it was the rogue at this unit's place, and of its calls one less is left
   pub record BeginsStorm (d : MissionData) (u : ℕ) (xs : List R) (left : List ℕ) (ys : List R) (left' : List ℕ) : Type 0 where
     pub storm : StormEntry
     pub storm_is : storm_at d u ≡ Some storm

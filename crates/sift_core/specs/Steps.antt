@@ -6,8 +6,8 @@ use Rattle.sift_mission.specs.Data.{FlownMission}
 use Rattle.sift_unit.specs.Boards.{desk_of}
 use Rattle.sift_unit.specs.Stepping.{Steps}
 use Rattle.sift_unit.specs.declared.board.Board.{Board}
-use Rattle.sift_unit.specs.declared.stepped.Stepped.{Stepped}
-use Rattle.sift_unit.specs.declared.stepped.Stepped.TheVariants.{Moved, NotYet, Turned, Landed}
+use Rattle.sift_unit.specs.declared.board.Stepped.{Stepped}
+use Rattle.sift_unit.specs.declared.board.Stepped.TheVariants.{Moved, NotYet, Turned, Landed}
 use Rattle.sift_flight.specs.Flight.{Strays}
 use Rattle.sift_buffer.specs.Racks.{ranges_for, core_of, view_at, Stands}
 use Rattle.sift_core.specs.Machines.{layout_of, board_at, StoresStray}

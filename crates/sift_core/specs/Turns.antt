@@ -5,7 +5,7 @@ use Rattle.sift_base.specs.Units.{has}
 use Rattle.sift_mission.specs.Data.{MissionData, FlownMission}
 use Rattle.sift_mission.specs.Flown.{flown}
 use Rattle.sift_rogue.specs.Storms.{Call}
-use Rattle.sift_unit.specs.declared.stepped.Stepped.{Stepped}
+use Rattle.sift_unit.specs.declared.board.Stepped.{Stepped}
 use Rattle.sift_core.specs.Machines.{progress_at}
 use Rattle.sift_core.specs.Steps.{IsWaiting}
 use Rattle.sift_core.specs.Courses.{Course, StepsOn, Spends}

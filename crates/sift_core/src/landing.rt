@@ -13,7 +13,7 @@ ghost use Rattle.sift_core.specs.Landing.{IsFlownInOrder, IsLandedFrom};
 ghost use Rattle.sift_core.specs.Storms.{IsRoundByRogues};
 ghost use Rattle.sift_core.specs.Turns.{AreAllDown};
 
-use crate::calls::CallsLeft;
+use crate::going::CallsLeft;
 use crate::machine::Machine;
 use sift_base::NoMemory;
 use sift_buffer::{Acts, Journal};

@@ -2,14 +2,13 @@
 //! that turn.
 #![tactic(auto)]
 
-mod calls;
 mod going;
 mod landing;
 mod laws;
 mod machine;
 mod order;
 
-pub use calls::CallsLeft;
+pub use going::{CallsLeft, begin_storm};
 pub use landing::fly;
 pub use laws::ended_frames_are_round;
 pub use machine::Machine;

@@ -8,7 +8,7 @@ ghost use Rattle.sift_core.specs.Courses.{course, rest};
 ghost use Rattle.sift_core.specs.Storms.{CarriesOn, IsUnderWay};
 ghost use Rattle.sift_core.specs.Turns.{end_in, AreAllDone, AreAllDown, IsFirstLeft, IsLeast, IsDrawn, Tries, TurnsAt, FliesInOrder};
 
-use crate::calls::CallsLeft;
+use crate::going::CallsLeft;
 use crate::machine::Machine;
 use sift_base::{Draw, UnitId};
 use sift_mission::Mission;

@@ -1,16 +1,34 @@
-//! The entries of an array, and the tables that they are.
+//! The entries of an array, the tables that they are, and the rules that a document breaks.
 
-ghost use Rattle.std.specs.Prelude.{◌≡◌, ◌<◌, ◌≤◌, ◌^◌, IfErr, IfOk, length, map};
+ghost use Rattle.std.specs.Prelude.{◌≡◌, ◌<◌, ◌^◌, ◌≤◌, IfErr, IfOk, length, map};
 ghost use Rattle.toml.specs.View.{table_view, view};
 ghost use Rattle.sift_document.specs.Document.{IsArrayOf, IsTableOf, entries_of, members_of};
 ghost use Rattle.sift_document.specs.Rules.{HoldsOf};
 ghost use Rattle.sift_document.specs.Testing.{Tests};
 
-use crate::rule::{BrokenRule, broken};
 use crate::value::table_of;
 use sift_base::Stop;
 use std::alloc::Global;
 use toml::{Table, Value};
+
+/// The first of some rules that a document breaks.
+#[derive(Clone, Copy)]
+pub struct BrokenRule {
+    pub number: u32,
+    /// The number of the first entry that breaks it, and 0 for a rule that speaks of no entry.
+    pub place: u32,
+}
+
+/// The refusal of a rule that is broken at an entry.
+pub fn broken(number: u32, entry: usize) -> Stop<BrokenRule>
+    requires { entry < 2 ^ 32 }
+    ensures { result ≡ Stop.Refused (record { number = number; place = entry }) }
+{
+    Stop::Refused(BrokenRule {
+        number,
+        place: entry as u32,
+    })
+}
 
 /// The entries of an array that has from `low` to `high` of them, by the rule of this number.
 pub fn entries_between(

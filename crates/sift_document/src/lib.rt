@@ -5,11 +5,9 @@
 #![tactic(auto)]
 
 mod entries;
-mod rule;
 mod value;
 
-pub use entries::{entries_between, tables_in};
-pub use rule::{BrokenRule, broken};
+pub use entries::{BrokenRule, broken, entries_between, tables_in};
 pub use value::{
     digit_lists, digit_to, digits, entries_at, has_only_keys, integer_between, member_of,
     natural_at, number_at, numbers_to, optional_between, table_of, word_array, word_value,

@@ -10,7 +10,7 @@ use Rattle.sift_buffer.specs.Ranges.{Ranges, shared_words}
 use Rattle.sift_buffer.specs.Conduct.{Conduct, put, fresh}
 use Rattle.sift_buffer.specs.Lawful.{Lawful}
 use Rattle.sift_buffer.specs.Laws.{FreshIsLawful}
-use Rattle.sift_ether.specs.declared.deed.Chronicle.{Chronicle}
+use Rattle.sift_ether.specs.declared.rule.Chronicle.{Chronicle}
 use Rattle.sift_ether.specs.Deeds.{blank, blanks_from}
 use Rattle.sift_ether.specs.Rule.{HasUnit, LacksUnit, StandsFor, IsSeatedAt, IsLawfulTable, IsPartOfLawfulCore}
 use Rattle.sift_ether.specs.TableSeats.{first_of, rest_of}

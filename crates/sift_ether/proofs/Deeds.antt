@@ -1,5 +1,5 @@
 -- Each deed of a seat that stands for one unit is an event of the core.
-use Rattle.std.proofs.Common.{◌≡◌, ◌≢◌, ⊎_elim, inl, ℕ, ◌+◌, ◌<◌, List, [], ◌∷◌, Option, slice_index, slice_set, sym, refl, ap, ◌∙◌, subst}
+use Rattle.std.proofs.Common.{◌≡◌, ◌≢◌, ⊎_elim, inl, ℕ, ◌+◌, ◌<◌, List, [], ◌∷◌, slice_index, slice_set, sym, refl, ap, ◌∙◌, subst}
 use Rattle.std.proofs.lemmas.List.{set-get_or}
 use mathlib.Core.Option.{some}
 use mathlib.Core.Option as maybe
@@ -13,11 +13,11 @@ use Rattle.sift_buffer.specs.Conditions.{MayHear, MaySay, MayEnter, MayTurn, May
 use Rattle.sift_buffer.specs.Core.{Event, look, hear, say, enter, turn, stray, doer, after, MayDo}
 use Rattle.sift_buffer.specs.Lawful.{Lawful}
 use Rattle.sift_buffer.specs.Laws.{EventsKeepLawful}
-use Rattle.sift_ether.specs.declared.deed.Chronicle.{Chronicle}
-use Rattle.sift_ether.specs.declared.deed.Deed.{Deed}
+use Rattle.sift_ether.specs.declared.rule.Chronicle.{Chronicle}
+use Rattle.sift_ether.specs.declared.rule.Deed.{Deed}
 use Rattle.sift_ether.specs.Deeds.{conduct_by, chronicle_with, with_deed}
-use Rattle.sift_ether.specs.declared.call.Call.{Call}
-use Rattle.sift_ether.specs.declared.call.Call.TheVariants.{Look, Hear, Say, Enter, Turn, Stray}
+use Rattle.sift_ether.specs.declared.steps.Call.{Call}
+use Rattle.sift_ether.specs.declared.steps.Call.TheVariants.{Look, Hear, Say, Enter, Turn, Stray}
 use Rattle.sift_ether.specs.Steps.{MayLoad, MayStore, deed_of}
 use Rattle.sift_ether.specs.Rule.{StandsFor, IsLawfulTable}
 use Rattle.sift_ether.specs.TableSeats.{AddsDeed}

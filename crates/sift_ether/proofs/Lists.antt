@@ -6,8 +6,8 @@ use Rattle.std.proofs.Math.Seq.{get_or-append_seam}
 use mathlib.Core.Logic.{dite}
 use native.Mathlib.Decide.{ℕ_discrete}
 use Rattle.atomic_table.specs.Seated.{TableId}
-use Rattle.sift_base.specs.declared.layout.Layout.{Layout}
-use Rattle.sift_ether.specs.declared.token.Token.{Token}
+use Rattle.sift_base.specs.declared.slots.Layout.{Layout}
+use Rattle.sift_ether.specs.declared.seat.Token.{Token}
 use Rattle.sift_ether.specs.Tokens.{IsNewAt, AreNewAt}
 
 -- what holds of each element holds with one more

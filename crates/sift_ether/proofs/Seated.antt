@@ -6,7 +6,7 @@ use native.Mathlib.Decide.{ℕ_discrete}
 use lib.ListN.{get_elem?}
 use Rattle.atomic_table.proofs.Lists.{set_here, set_else, at_longer}
 use Rattle.sift_buffer.specs.Conduct.{Conduct, put}
-use Rattle.sift_ether.specs.declared.deed.Chronicle.{Chronicle}
+use Rattle.sift_ether.specs.declared.rule.Chronicle.{Chronicle}
 use Rattle.sift_ether.specs.Rule.{HasUnit, LacksUnit, StandsFor, IsSeatedAt, TellConduct}
 use Rattle.sift_ether.proofs.Puts.{put_else}
 

@@ -1,7 +1,7 @@
 -- A seat after one deed of its unit.
 use Rattle.std.proofs.Common.{◌≡◌, List, [], ◌∷◌, ◌++◌, ap, ◌∙◌}
 use Rattle.sift_buffer.specs.Conduct.{Stray}
-use Rattle.sift_ether.specs.declared.deed.Deed.{Deed}
+use Rattle.sift_ether.specs.declared.rule.Deed.{Deed}
 use Rattle.sift_ether.specs.declared.seat.EtherSeat.{EtherSeat}
 use Rattle.sift_ether.specs.Deeds.{strays_by, chronicle_with}
 use Rattle.sift_ether.specs.Seats.{Follows, chronicle_at}

@@ -4,9 +4,9 @@ use Rattle.sift_buffer.specs.Ranges.{Ranges}
 use Rattle.sift_buffer.specs.Conduct.{Conduct, Stray, fresh, with_seen, with_said, with_heard, with_entered, with_turned, with_stray}
 use Rattle.sift_buffer.specs.Ledgers.{Ledger, conduct_with}
 use Rattle.sift_buffer.specs.Views.{View, Sight, count_after}
-use Rattle.sift_ether.specs.declared.deed.Chronicle.{Chronicle}
-use Rattle.sift_ether.specs.declared.deed.Deed.{Deed}
-use Rattle.sift_ether.specs.declared.deed.Deed.TheVariants.{Looked, Said, Heard, Entered, Turned, Strayed}
+use Rattle.sift_ether.specs.declared.rule.Chronicle.{Chronicle}
+use Rattle.sift_ether.specs.declared.rule.Deed.{Deed}
+use Rattle.sift_ether.specs.declared.rule.Deed.TheVariants.{Looked, Said, Heard, Entered, Turned, Strayed}
 
 -- a conduct, and one deed more
 abbrev pub with_deed : Conduct → Deed → Conduct

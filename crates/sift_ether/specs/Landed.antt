@@ -1,10 +1,10 @@
 -- What comes of an ether and its tokens at the end.
 use Rattle.std.specs.Prelude.{◌≡◌, ◌<◌, ℕ, List, length, slice_index_or}
-use Rattle.sift_base.specs.declared.layout.Layout.{Layout}
+use Rattle.sift_base.specs.declared.slots.Layout.{Layout}
 use Rattle.sift_buffer.specs.Journals.{Pages, IsJournalOf, HasWordsOf}
 use Rattle.sift_buffer.specs.Lawful.{Lawful}
 use Rattle.sift_buffer.specs.Tables.{ranges_of}
-use Rattle.sift_ether.specs.declared.token.Token.{Token}
+use Rattle.sift_ether.specs.declared.seat.Token.{Token}
 use Rattle.sift_ether.specs.Tokens.{conduct_at}
 
 -- it is the journal of this unit, and has its words

@@ -7,7 +7,7 @@ use Rattle.sift_buffer.specs.Ranges.{Ranges}
 use Rattle.sift_buffer.specs.Conduct.{Conduct}
 use Rattle.sift_buffer.specs.Core.{Core}
 use Rattle.sift_buffer.specs.Lawful.{Lawful}
-use Rattle.sift_ether.specs.declared.deed.Chronicle.{Chronicle}
+use Rattle.sift_ether.specs.declared.rule.Chronicle.{Chronicle}
 use Rattle.sift_ether.specs.Deeds.{conduct_by}
 
 -- one of the chronicles is this unit's

@@ -2,8 +2,8 @@
 use Rattle.std.specs.Prelude.{◌≡◌, ℕ, List, ◌++◌, ⊤}
 use Rattle.sift_buffer.specs.Conduct.{Stray}
 use Rattle.sift_buffer.specs.Views.{View}
-use Rattle.sift_ether.specs.declared.deed.Chronicle.{Chronicle}
-use Rattle.sift_ether.specs.declared.deed.Deed.{Deed}
+use Rattle.sift_ether.specs.declared.rule.Chronicle.{Chronicle}
+use Rattle.sift_ether.specs.declared.rule.Deed.{Deed}
 use Rattle.sift_ether.specs.declared.seat.EtherSeat.{EtherSeat}
 use Rattle.sift_ether.specs.Deeds.{view_by, strays_by}
 use Rattle.sift_ether.specs.TableSeats.{ranges_at, chronicle_of}

@@ -4,11 +4,11 @@ use Rattle.sift_buffer.specs.Cell.{packed, taken, IsWord}
 use Rattle.sift_buffer.specs.Ranges.{Ranges, place}
 use Rattle.sift_buffer.specs.Conduct.{never}
 use Rattle.sift_buffer.specs.Conditions.{MaySay, MayHear, MayEnter, MayTurn, MayStray, PassesGate}
-use Rattle.sift_ether.specs.declared.call.Call.{Call}
-use Rattle.sift_ether.specs.declared.call.Call.TheVariants.{Look, Hear, Say, Enter, Turn, Stray}
-use Rattle.sift_ether.specs.declared.deed.Chronicle.{Chronicle}
-use Rattle.sift_ether.specs.declared.deed.Deed.{Deed}
-use Rattle.sift_ether.specs.declared.deed.Deed.TheVariants.{Looked, Said, Heard, Entered, Turned, Strayed}
+use Rattle.sift_ether.specs.declared.steps.Call.{Call}
+use Rattle.sift_ether.specs.declared.steps.Call.TheVariants.{Look, Hear, Say, Enter, Turn, Stray}
+use Rattle.sift_ether.specs.declared.rule.Chronicle.{Chronicle}
+use Rattle.sift_ether.specs.declared.rule.Deed.{Deed}
+use Rattle.sift_ether.specs.declared.rule.Deed.TheVariants.{Looked, Said, Heard, Entered, Turned, Strayed}
 use Rattle.sift_ether.specs.Deeds.{conduct_by}
 
 -- the deed that a call adds, by the number that its step loads or stores

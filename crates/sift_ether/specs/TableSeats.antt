@@ -5,8 +5,8 @@ use Rattle.atomic_table.specs.Seated.{TableId}
 use Rattle.sift_buffer.specs.Ranges.{Ranges, shared_words}
 use Rattle.sift_buffer.specs.Tables.{ranges_of}
 use Rattle.sift_buffer.specs.declared.grid.Grid.{Grid}
-use Rattle.sift_ether.specs.declared.deed.Chronicle.{Chronicle}
-use Rattle.sift_ether.specs.declared.deed.Deed.{Deed}
+use Rattle.sift_ether.specs.declared.rule.Chronicle.{Chronicle}
+use Rattle.sift_ether.specs.declared.rule.Deed.{Deed}
 use Rattle.sift_ether.specs.Deeds.{blank, chronicle_with}
 
 -- how many units, slots and frames a grid has

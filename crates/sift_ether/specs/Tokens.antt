@@ -1,13 +1,13 @@
 -- The tokens of an ether.
 use Rattle.std.specs.Prelude.{◌≡◌, ◌<◌, ℕ, List, map, length, slice_index_or}
 use Rattle.atomic_table.specs.Seated.{TableId}
-use Rattle.sift_base.specs.declared.layout.Layout.{Layout}
+use Rattle.sift_base.specs.declared.slots.Layout.{Layout}
 use Rattle.sift_buffer.specs.Conduct.{Conduct, fresh}
 use Rattle.sift_buffer.specs.Tables.{ranges_of}
 use Rattle.sift_buffer.specs.Views.{View, fresh_view}
-use Rattle.sift_ether.specs.declared.deed.Chronicle.{Chronicle}
+use Rattle.sift_ether.specs.declared.rule.Chronicle.{Chronicle}
 use Rattle.sift_ether.specs.declared.ether.Ether.{Ether}
-use Rattle.sift_ether.specs.declared.token.Token.{Token}
+use Rattle.sift_ether.specs.declared.seat.Token.{Token}
 use Rattle.sift_ether.specs.Deeds.{conduct_by, view_by}
 use Rattle.sift_ether.specs.TableSeats.{chronicle_of}
 

@@ -4,11 +4,12 @@ ghost use Rattle.std.specs.List.{All};
 ghost use Rattle.sift_buffer.specs.Ledgers.{HasItsWords};
 ghost use Rattle.sift_ether.specs.Tokens.{AreTokensOf, AreAtTable, chronicle_in};
 ghost use Rattle.sift_ether.specs.Landed.{HaveLanded};
+ghost use Rattle.sift_ether.specs.TableSeats.{ranges_at};
+ghost use Rattle.sift_ether.specs.Rule.{IsPartOfLawfulCore};
 
 use crate::ether::Ether;
-use crate::head::{close, join_back, new_head};
-use crate::rule::{SharedWords, TableSeat};
-use crate::token::Token;
+use crate::rule::{Arrives, SharedWords, TableSeat, Together, WordTable};
+use crate::seat::Token;
 use sift_base::NoMemory;
 use sift_buffer::Journal;
 use std::alloc::Global;
@@ -68,4 +69,34 @@ fn join_one(words: &SharedWords, head: &mut TableSeat, token: Token) -> Journal
     } = token;
     join_back(words, head, seat);
     acts.end()
+}
+
+/// A head seat anew, which stands for no unit. It is one load of word 0.
+fn new_head(words: &SharedWords) -> TableSeat
+    requires { 0 < words.now.table_id.words }
+    ensures table { result.table_id ≡ words.now.table_id }
+    ensures seat { result.me ≡ ([], []) }
+{
+    let (_, head) = words.load_new_seat::<Arrives>(0);
+    head
+}
+
+/// Gives a seat's unit back to the head seat. It is one load of word 0.
+fn join_back(words: &SharedWords, head: &mut TableSeat, seat: TableSeat)
+    requires head { head.old.table_id ≡ words.now.table_id }
+    requires wide { 0 < words.now.table_id.words }
+    requires seat { (seat.table_id ≡ words.now.table_id) × (seat.me.1 ≡ []) }
+    ensures { (head.new.table_id ≡ head.old.table_id) × (head.new.me ≡ (head.old.me.0 ++ seat.me.0, head.old.me.1)) }
+{
+    words.join_seat::<Together>(head, seat);
+}
+
+/// Ends the table. What the head seat knows is part of a lawful core.
+fn close(table: WordTable, head: TableSeat)
+    requires head { head.table_id ≡ table.shared.table_id }
+    requires slots { table.shared.table_id.slots ≡ 0 }
+    ensures { IsPartOfLawfulCore (ranges_at table.shared.key) head.me.0 }
+{
+    let closed = table.close_with(head);
+    closed.free();
 }

@@ -5,7 +5,7 @@ ghost use Rattle.sift_buffer.specs.declared.grid.Grid.{Grid as TheGrid};
 ghost use Rattle.sift_ether.specs.Rule.{IsLawfulTable};
 ghost use Rattle.sift_ether.specs.Seating.{TokensComeBack};
 ghost use Rattle.sift_ether.specs.TableSeats.{ranges_at};
-ghost use Rattle.sift_ether.specs.declared.deed.Chronicle.{Chronicle as TheChronicle};
+ghost use Rattle.sift_ether.specs.declared.rule.Chronicle.{Chronicle as TheChronicle};
 
 use crate::rule::{Chronicles, IsLawful};
 use atomic_table::TableRule;

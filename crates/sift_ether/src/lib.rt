@@ -2,23 +2,16 @@
 //! unit has a token, by which it takes its seat there.
 #![tactic(auto)]
 
-mod call;
-mod deed;
 mod ether;
-mod head;
 mod land;
 mod laws;
 mod make;
 mod port;
 mod rule;
 mod seat;
-mod sit;
-mod sleep;
 mod steps;
-mod token;
 
-pub use deed::{Chronicle, Deed};
 pub use ether::Ether;
 pub use laws::{the_rule_is_the_lawful_core, tokens_come_back};
-pub use seat::EtherSeat;
-pub use token::Token;
+pub use rule::{Chronicle, Deed};
+pub use seat::{EtherSeat, Token};

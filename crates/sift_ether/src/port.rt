@@ -1,42 +1,46 @@
-//! A unit at its seat as a port.
-ghost use Rattle.std.specs.Prelude.{◌≡◌, ◌<◌, []};
-ghost use Rattle.sift_buffer.specs.Conditions.{MayEnter, MayTurn, PassesGate};
-ghost use Rattle.sift_buffer.specs.Views.{view_with_entered, view_with_turned};
+//! A unit takes its seat, is a port there, and leaves it.
+ghost use Rattle.sift_ether.specs.Tokens.{IsTokenOf};
+ghost use Rattle.sift_ether.specs.Seating.{IsSeatOf, IsTokenBack};
 ghost use Rattle.sift_ether.specs.Seats.{view_of, Follows, Stands};
 ghost use Rattle.sift_ether.specs.Following.{itself, further};
 
-use crate::call::Call;
-use crate::seat::EtherSeat;
-use crate::steps::{load, store};
+use crate::ether::Ether;
+use crate::seat::{EtherSeat, Token};
+use crate::steps::{Call, load, store};
 use sift_base::{UnitId, Word};
-use sift_buffer::{Entering, Look, Port, find_behind, pack, take};
+use sift_buffer::{Look, Port, pack, take};
 use std::marker::Brand;
 
-impl EtherSeat<'_> {
-    /// Stores the progress, raised by one.
-    fn go_on(&mut self)
-        requires may { MayEnter (view_of self.old).conduct }
-        requires gate { PassesGate (view_of self.old).ranges (view_of self.old).conduct (view_of self.old).unit }
-        ensures entered { view_of self.new ≡ view_with_entered (view_of self.old) }
-        ensures follows { Follows self.old [] self.new }
+impl Ether {
+    /// The token's unit at its seat. This makes no step.
+    pub fn seat(&self, token: Token) -> EtherSeat<'_>
+        requires { IsTokenOf self.now token }
+        ensures { IsSeatOf self.now token result }
     {
-        let next = self.acts.progress() + 1;
-        let own = usize::from(self.unit.get());
-        store::<Brand>(self.words, &mut self.seat, own, next, Call::Enter);
-        self.acts.note_entered();
+        let Token { seat, unit, acts } = token;
+        EtherSeat {
+            words: &self.table.shared,
+            grid: self.grid,
+            seat,
+            unit,
+            acts,
+        }
     }
+}
 
-    /// Stores the progress number of a unit that has turned.
-    fn leave(&mut self)
-        requires may { MayTurn (view_of self.old).conduct }
-        requires gate { 0 < (view_of self.old).conduct.progress → PassesGate (view_of self.old).ranges (view_of self.old).conduct (view_of self.old).unit }
-        ensures turned { view_of self.new ≡ view_with_turned (view_of self.old) }
-        ensures follows { Follows self.old [] self.new }
+impl EtherSeat<'_> {
+    /// The unit's token, with all that the unit did at the seat. This makes no step.
+    pub fn end(self) -> Token
+        ensures { IsTokenBack self.entry result }
     {
-        self.acts.note_turned();
-        let own = usize::from(self.unit.get());
-        let number = self.acts.progress();
-        store::<Brand>(self.words, &mut self.seat, own, number, Call::Turn);
+        let EtherSeat {
+            words: _,
+            grid: _,
+            seat,
+            unit,
+            acts,
+        } = self;
+        Token { seat, unit, acts }
     }
 }
 
@@ -51,6 +55,18 @@ impl Look for EtherSeat<'_> {
 
     ghost follows_on = { further };
 
+    fn units(&self) -> u8 {
+        self.grid.layout.units
+    }
+
+    fn unit(&self) -> UnitId {
+        self.unit
+    }
+
+    fn progress(&self) -> u64 {
+        self.acts.progress()
+    }
+
     fn look(&mut self, other: UnitId) -> u64 {
         let word = usize::from(other.get());
         let number = load::<Brand>(self.words, &mut self.seat, word, Call::Look { other });
@@ -60,10 +76,6 @@ impl Look for EtherSeat<'_> {
 }
 
 impl Port for EtherSeat<'_> {
-    fn progress(&self) -> u64 {
-        self.acts.progress()
-    }
-
     fn say(&mut self, to: UnitId, slot: usize, f: u32, stamp: u32, word: Option<Word>) {
         let stored = word;
         let told = word;
@@ -95,26 +107,18 @@ impl Port for EtherSeat<'_> {
         word
     }
 
-    fn try_enter(&mut self) -> Entering {
-        let progress = self.acts.progress();
-        if let Some((unit, seen)) = find_behind(self, self.grid.layout.units, self.unit, progress) {
-            return Entering::NotYet { unit, seen };
-        }
-        self.go_on();
-        Entering::Entered
+    fn enter(&mut self) {
+        let next = self.acts.progress() + 1;
+        let own = usize::from(self.unit.get());
+        store::<Brand>(self.words, &mut self.seat, own, next, Call::Enter);
+        self.acts.note_entered();
     }
 
-    fn turn(&mut self) -> Entering {
-        let progress = self.acts.progress();
-        if progress == 0 {
-            self.leave();
-            return Entering::Entered;
-        }
-        if let Some((unit, seen)) = find_behind(self, self.grid.layout.units, self.unit, progress) {
-            return Entering::NotYet { unit, seen };
-        }
-        self.leave();
-        Entering::Entered
+    fn leave(&mut self) {
+        self.acts.note_turned();
+        let own = usize::from(self.unit.get());
+        let number = self.acts.progress();
+        store::<Brand>(self.words, &mut self.seat, own, number, Call::Turn);
     }
 
     fn stray(&mut self, to: UnitId, slot: usize, cell: u64) {

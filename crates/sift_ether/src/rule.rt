@@ -1,17 +1,57 @@
-//! The rule of the table of shared words, and what its steps tell.
+//! The rule of the table of shared words: what it knows of each unit, and what its steps tell.
 ghost use Rattle.sift_ether.specs.Deeds.{blanks_from};
 ghost use Rattle.sift_ether.specs.Rule.{IsLawfulTable};
 ghost use Rattle.sift_ether.specs.TableSeats.{ranges_at, first_of, rest_of, AddsDeed};
 ghost use Rattle.std.specs.Prelude.{◌≡◌, [], ◌++◌, ℕ};
-ghost use Rattle.sift_ether.specs.declared.deed.Deed.{Deed as TheDeed};
-ghost use Rattle.sift_ether.specs.declared.deed.Deed.TheVariants.{Entered as TheEntered};
+ghost use Rattle.sift_ether.specs.declared.rule.Deed.{Deed as TheDeed};
+ghost use Rattle.sift_ether.specs.declared.rule.Deed.TheVariants.{Entered as TheEntered};
 
-use crate::deed::Chronicle;
 use atomic_table::{Join, Play, Seat, Shared, Split, Table, TableRule};
 use sift_buffer::Grid;
 use std::alloc::Global;
 use std::collections::LinkedList;
 use std::marker::{Brand, PhantomData};
+
+/// One event of a unit, with what it loaded.
+pub enum Deed {
+    /// The unit loaded this progress number of another.
+    Looked {
+        unit: u64,
+        number: u64,
+    },
+    /// It stored a word, or absence, in its cell for another unit.
+    Said {
+        frame: u64,
+        slot: u64,
+        to: u64,
+        stamp: u64,
+        word: Option<u64>,
+    },
+    /// It loaded another unit's cell for it, and took a word, or absence, by a stamp.
+    Heard {
+        frame: u64,
+        slot: u64,
+        from: u64,
+        stamp: u64,
+        word: Option<u64>,
+    },
+    /// It stored its progress number, raised by one.
+    Entered,
+    /// It stored the progress number of a unit that has turned.
+    Turned,
+    /// It stored any number in its cell for another unit, after it had turned.
+    Strayed {
+        to: u64,
+        slot: u64,
+        cell: u64,
+    },
+}
+
+/// A unit and all its deeds, the newest first.
+pub struct Chronicle {
+    pub unit: u64,
+    pub deeds: LinkedList<Deed>,
+}
 
 /// What a seat of the table knows: the units for which it stands, and all that they did.
 pub type Chronicles = LinkedList<Chronicle>;
@@ -65,9 +105,9 @@ impl Split<Chronicles> for First {
 }
 
 /// The units of two seats go to the first of them.
-pub struct All;
+pub struct Together;
 
-impl Join<Chronicles> for All {
+impl Join<Chronicles> for Together {
     ghost both = { λ view other. view ++ other };
 
     ghost spent = { [] };

@@ -1,12 +1,25 @@
-//! A unit at its seat.
-ghost use Rattle.std.specs.Prelude.{◌≡◌};
-ghost use Rattle.sift_buffer.specs.Journals.{IsJournalOf};
+//! A unit's token, and the unit at its seat.
+ghost use Rattle.std.specs.Prelude.{◌≡◌, [], ◌∷◌};
 ghost use Rattle.sift_ether.specs.Deeds.{AreNoted};
-ghost use Rattle.sift_ether.specs.TableSeats.{ranges_at, chronicle_of, IsAtTable, IsOne};
+ghost use Rattle.sift_ether.specs.TableSeats.{chronicle_of, ranges_at, IsAtTable, IsOne};
+ghost use Rattle.sift_buffer.specs.Journals.{IsJournalOf};
 
 use crate::rule::{SharedWords, TableSeat};
 use sift_base::UnitId;
 use sift_buffer::{Acts, Grid};
+
+/// A unit's right to its seat, with the memory of its acts, which note all that the table knows of
+/// the unit but its strays. It may be sent to another thread.
+#[derive(Drop)]
+pub struct Token {
+    pub(crate) seat: TableSeat,
+    pub(crate) unit: UnitId,
+    pub(crate) acts: Acts,
+    ghost sits: { seat.me ≡ (chronicle_of seat.me ∷ [], []) },
+    ghost unit_is: { (chronicle_of seat.me).unit ≡ unit },
+    ghost owner: { acts.pages.unit ≡ unit },
+    ghost noted: { AreNoted acts (chronicle_of seat.me) },
+}
 
 /// A unit at its seat. Each call is one atomic load or store of a shared word, or a round of such
 /// loads and one store. It waits for nobody, and takes no memory.

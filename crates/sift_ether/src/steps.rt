@@ -6,9 +6,37 @@ ghost use Rattle.sift_ether.specs.Deeds.{chronicle_with};
 ghost use Rattle.sift_ether.specs.Steps.{MayLoad, MayStore, deed_of};
 ghost use Rattle.sift_ether.specs.TableSeats.{ranges_at, chronicle_of, IsAtTable, IsOne};
 
-use crate::call::Call;
 use crate::rule::{Adds, SharedWords, TableSeat, Told};
+use sift_base::{UnitId, Word};
 use sift_buffer::events_keep_the_core_lawful;
+
+/// A call of a unit, without the number that its step loads or stores. It is for proofs alone: no step
+/// looks at it.
+#[derive(Clone, Copy)]
+pub enum Call {
+    Look {
+        other: UnitId,
+    },
+    Hear {
+        f: u32,
+        slot: usize,
+        from: UnitId,
+        stamp: u32,
+    },
+    Say {
+        f: u32,
+        slot: usize,
+        to: UnitId,
+        stamp: u32,
+        word: Option<Word>,
+    },
+    Enter,
+    Turn,
+    Stray {
+        to: UnitId,
+        slot: usize,
+    },
+}
 
 /// Loads a word, as one call of the seat's unit.
 pub fn load<C: Told>(words: &SharedWords, seat: &mut TableSeat, word: usize, call: Call) -> u64

@@ -1,9 +1,13 @@
-//! What a unit catches others at in a frame.
+//! What a unit catches others at in a frame, and the record that it keeps of it.
 
 ghost use Rattle.std.specs.Prelude.{◌≡◌};
-ghost use Rattle.sift_exec.specs.Conviction.{everyone_in, has_kind, kinds_of, nobody};
+ghost use Rattle.sift_exec.specs.Conviction.{everyone_in, has_kind, kinds_of, nobody, noted};
+ghost use Rattle.sift_exec.specs.declared.catches.Catches.{Catches};
+ghost use Rattle.std.specs.Coded.{codes};
+ghost use Rattle.sift_exec.specs.contracts.catches.Catches as catches;
 
 use sift_base::{UnitId, UnitSet};
+use std::marker::Model;
 
 /// In which way a unit was caught.
 #[derive(Clone, Copy)]
@@ -79,5 +83,66 @@ impl Catches {
             relay: self.relay.has(u),
             clock: self.clock.has(u),
         }
+    }
+}
+
+// ---- the record
+
+/// Whom a unit has caught so far in the frame. A clause sees the three sets.
+#[derive(Clone, Copy)]
+pub struct Recorder {
+    caught: Catches,
+}
+
+impl Model for Recorder {
+    ghost Value = { Catches };
+
+    ghost coded = { Prim.hlevel (codes, catches.the_row.coded) };
+
+    ghost view = { λ recorder. recorder.caught };
+
+    ghost inverse = { λ caught. record { caught = caught } };
+}
+
+impl Recorder {
+    /// A record without notes.
+    pub fn new() -> Recorder
+        ensures { result ≡ nobody }
+    {
+        Recorder {
+            caught: Catches::none(),
+        }
+    }
+
+    /// Notes that the unit was caught in this way.
+    pub fn note(&mut self, u: UnitId, kind: Kind)
+        ensures { self.new ≡ noted self.old u kind }
+    {
+        match kind {
+            Kind::Poll => self.caught.poll = self.caught.poll.with(u),
+            Kind::Relay => self.caught.relay = self.caught.relay.with(u),
+            Kind::Clock => self.caught.clock = self.caught.clock.with(u),
+        }
+    }
+
+    /// The units noted, by kind.
+    pub fn catches(&self) -> Catches
+        ensures { result ≡ self.now }
+    {
+        self.caught
+    }
+
+    /// The units noted, of whatever kind.
+    pub fn mask(&self) -> UnitSet
+        ensures { result ≡ everyone_in self.now }
+    {
+        self.caught.everyone()
+    }
+
+    /// Forgets all notes.
+    pub fn clear(&mut self)
+        ensures { self.new ≡ nobody }
+    {
+        *self = Recorder::new();
     }
 }

@@ -6,8 +6,6 @@
 
 mod catches;
 mod conviction;
-mod recorder;
 
-pub use catches::{Catches, Kind, Kinds};
+pub use catches::{Catches, Kind, Kinds, Recorder};
 pub use conviction::{convict, conviction_is_just, next_config};
-pub use recorder::Recorder;

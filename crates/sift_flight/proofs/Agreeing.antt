@@ -3,7 +3,7 @@ use Rattle.std.proofs.Common.{◌≡◌, inl, inr, ℕ, ◌<◌, List, Bool, tru
 use Rattle.std.proofs.lemmas.Bool.{cases_Bool, ne_eqb}
 use Rattle.std.proofs.lemmas.Bool.Decides.{eqb_tells}
 use Rattle.sift_base.specs.Units.{has}
-use Rattle.sift_base.specs.declared.slot.Slot.TheVariants.{Sense, RelaySense, Report, RelayReport}
+use Rattle.sift_base.specs.declared.slots.Slot.TheVariants.{Sense, RelaySense, Report, RelayReport}
 use Rattle.sift_config.specs.Config.{reader_of}
 use Rattle.sift_agree.specs.Agreement.{RelaysWell}
 use Rattle.sift_agree.specs.laws.Taking.{faulty_unit_is_agreed_on, working_unit_is_agreed_on}

@@ -2,7 +2,7 @@
 use Rattle.std.proofs.Common.{ne_eqb, ◌≡◌, inl, inr, ℕ, ◌*◌, ◌<◌, true, None, Some, if◌then◌else◌, option_map, refl, sym, ap, ◌∙◌, subst, arith}
 use Rattle.std.proofs.lemmas.Bool.{cases_Bool}
 use Rattle.sift_base.specs.Units.{has}
-use Rattle.sift_base.specs.declared.slot.Slot.{Slot}
+use Rattle.sift_base.specs.declared.slots.Slot.{Slot}
 use Rattle.sift_buffer.specs.Conduct.{hearing}
 use Rattle.sift_buffer.specs.Lawful.{Lawful}
 use Rattle.sift_mission.specs.Slots.{is_slot, calls, stamp_of, heard_at}

@@ -3,8 +3,8 @@ use Rattle.std.proofs.Common.{sym, ◌&&◌, ap, ◌≡◌, ℕ, zero, suc, ◌+
 use Rattle.std.proofs.lemmas.Bool.{agree_below_at, and_parts}
 use Rattle.sift_base.specs.Units.{has}
 use Rattle.sift_base.specs.Word.{word_count, add, mul}
-use Rattle.sift_base.specs.declared.slot.Slot.{Slot}
-use Rattle.sift_base.specs.declared.slot.Slot.TheVariants.{Clock, Sense, RelaySense, Out, Report, RelayReport}
+use Rattle.sift_base.specs.declared.slots.Slot.{Slot}
+use Rattle.sift_base.specs.declared.slots.Slot.TheVariants.{Clock, Sense, RelaySense, Out, Report, RelayReport}
 use Rattle.sift_vote.specs.Majority.{agreed_of}
 use Rattle.sift_mission.specs.Slots.{is_slot, executors}
 use Rattle.sift_mission.specs.Fits.{Fits, IsNumbered, SameAt}

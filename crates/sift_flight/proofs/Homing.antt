@@ -1,7 +1,7 @@
 -- What a flight that has come home tells is a round flight: it tells of each unit of the mission what the flight of its core does.
 use Rattle.std.proofs.Common.{◌≡◌, ℕ, ◌<◌, Bool, nat_eq, true, Option, None, if◌then◌else◌, sym, ◌∙◌, subst, arith}
 use Rattle.sift_base.specs.Units.{has}
-use Rattle.sift_base.specs.declared.slot.Slot.{Slot}
+use Rattle.sift_base.specs.declared.slots.Slot.{Slot}
 use Rattle.sift_buffer.specs.Core.{Core}
 use Rattle.sift_buffer.specs.Ranges.{Ranges}
 use Rattle.sift_mission.specs.Fits.{Fits}

@@ -9,6 +9,13 @@ pub mod CalmFits
 pub mod CalmGauge
 pub mod CalmStages
 pub mod CountProgram
+pub mod Counting
+pub mod FaultyMember
+pub mod FaultyMembers
+pub mod FaultyRemoving
+pub mod FaultySaying
+pub mod FaultyTiming
+pub mod FaultyVoting
 pub mod Firsts
 pub mod FrameActs
 pub mod GaugeProgram
@@ -17,7 +24,9 @@ pub mod Homing
 pub mod Ideal
 pub mod Induction
 pub mod Landed
+pub mod LieRows
 pub mod Listed
+pub mod Lying
 pub mod MadeFlight
 pub mod MadeFrame
 pub mod Making

@@ -8,7 +8,7 @@ use Rattle.sift_base.specs.laws.Ranges.{range-has}
 use Rattle.sift_mission.specs.Slots.{has_turned, turned_by}
 use Rattle.sift_mission.specs.Parts.{flown_of}
 use Rattle.sift_mission.specs.Premises.{IsFlyable}
-use Rattle.sift_mission.specs.declared.parts.MissionParts.{MissionParts}
+use Rattle.sift_mission.specs.declared.mission.MissionParts.{MissionParts}
 use Rattle.sift_conduct.specs.Conduct.{account_of}
 use Rattle.sift_conduct.specs.declared.account.Account.{Account as TheAccount}
 use Rattle.sift_conduct.specs.Frames.{frames_before}

@@ -2,7 +2,7 @@
 use Rattle.std.proofs.Common.{◌≡◌, inl, inr, ℕ, List, false, not, nat_eq, Some, refl, sym, ap, ◌∙◌, eqb-true}
 use Rattle.std.proofs.lemmas.Bool.{cases_Bool, and_parts}
 use Rattle.sift_base.specs.Units.{has}
-use Rattle.sift_base.specs.declared.slot.Slot.TheVariants.{Sense, RelaySense}
+use Rattle.sift_base.specs.declared.slots.Slot.TheVariants.{Sense, RelaySense}
 use Rattle.sift_base.specs.laws.Others.{told_apart}
 use Rattle.sift_config.specs.Config.{reader_of}
 use Rattle.sift_exec.specs.laws.Everyone.{holds-everyone}

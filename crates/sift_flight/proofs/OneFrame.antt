@@ -1,5 +1,5 @@
 -- One frame with margin whose beginning is known: its items of the headline, and what it leaves for the next.
-use Rattle.std.proofs.Common.{◌≡◌, ℕ, suc, ◌<◌, List, true, false, sym, ◌∙◌, subst, arith}
+use Rattle.std.proofs.Common.{◌≡◌, ℕ, suc, ◌<◌, List, map, slice_index, true, false, Some, sym, ap, ◌∙◌, subst, arith}
 use Rattle.std.proofs.lemmas.Grind.{same_number_lists}
 use Rattle.sift_base.specs.Units.{has}
 use Rattle.sift_config.specs.laws.Readers.{reader_in}
@@ -8,17 +8,19 @@ use Rattle.sift_program.specs.Program.{ProgramTree}
 use Rattle.sift_program.specs.Ideal.{ideal_words, words_before}
 use Rattle.sift_mission.specs.Data.{FlownMission, IsConfigOf}
 use Rattle.sift_mission.specs.Premises.{RunsProgram}
-use Rattle.sift_conduct.specs.Conduct.{caught}
+use Rattle.sift_mission.specs.Slots.{executors}
+use Rattle.sift_vote.specs.Majority.{majority_of}
+use Rattle.sift_conduct.specs.Conduct.{caught, polled}
 use Rattle.sift_conduct.specs.Frames.{last_of}
 use Rattle.sift_flight.specs.Flight.{Flight, Strays}
 use Rattle.sift_flight.specs.Figures.{Works, lead_of, config_at}
 use Rattle.sift_flight.specs.Headline.{agreed_at, shed_at, Headline}
 use Rattle.sift_flight.specs.laws.Leading.{lead_works}
 use Rattle.sift_flight.proofs.Ideal.{IsStep, ideal_step}
-use Rattle.sift_flight.proofs.Working.{InFrame, Member, works_in, member_of, busy_here, conduct_here}
+use Rattle.sift_flight.proofs.Working.{InFrame, Member, works_in, member_of, busy_here, by_config, conduct_here}
 use Rattle.sift_flight.proofs.Agreeing.{sensor_own, sensor_same, report_own, report_same}
 use Rattle.sift_flight.proofs.Timing.{leads, skew_within, slack_positive}
-use Rattle.sift_flight.proofs.Voting.{output_is}
+use Rattle.sift_flight.proofs.Voting.{output_is, vote_finds}
 use Rattle.sift_flight.proofs.Naming.{none_named}
 use Rattle.sift_flight.proofs.Removing.{names, next_one, next_exact, stays, next_is_config}
 
@@ -27,14 +29,16 @@ module _ (m : FlownMission) (program : ProgramTree) (strays : Strays) (fl : Flig
   abbrev us : List ℕ
   us = config_at m fl f
 
-  lead_here : Member m f us (lead_of m f)
+  -- the lead unit is a member
+  pub lead_here : Member m f us (lead_of m f)
   lead_here = member_of m strays fl f us here (lead_of m f) (lead_works m here.flyable f)
 
-  step : IsStep m us (agreed_at m fl f) (words_before program (agreed_at m fl) (shed_at m fl) f) (ideal_words program (agreed_at m fl) (shed_at m fl) f)
+  -- the frame is a step of the ideal machine
+  pub step : IsStep m us (agreed_at m fl f) (words_before program (agreed_at m fl) (shed_at m fl) f) (ideal_words program (agreed_at m fl) (shed_at m fl) f)
   step = ideal_step m program us (agreed_at m fl f) (words_before program (agreed_at m fl) (shed_at m fl) f) runs
 
   -- all members have the lead unit's inputs
-  inputs : (u : ℕ) → Member m f us u → (fl.account u f).ins ≡ agreed_at m fl f
+  pub inputs : (u : ℕ) → Member m f us u → (fl.account u f).ins ≡ agreed_at m fl f
   inputs u w =
       let c = (conduct_here m strays fl f us here u w).inputs_count in
       let d = (conduct_here m strays fl f us here (lead_of m f) lead_here).inputs_count in
@@ -42,14 +46,22 @@ module _ (m : FlownMission) (program : ProgramTree) (strays : Strays) (fl : Flig
       let within : x < m.sensors = omega (arith, c) in
       sensor_same m strays fl f us here x within (reader_in us x (omega (arith, here.config.enough))) u (lead_of m f) w lead_here)
 
-  lasts : (u : ℕ) → Member m f us u → last_of m (fl.account u) f ≡ words_before program (agreed_at m fl) (shed_at m fl) f
+  -- and the words before
+  pub lasts : (u : ℕ) → Member m f us u → last_of m (fl.account u) f ≡ words_before program (agreed_at m fl) (shed_at m fl) f
   lasts u w = last_is u (works_in m strays fl f us here u w)
 
   -- and the ideal outputs
   pub outputs : (u : ℕ) → Member m f us u → (fl.account u f).outs ≡ ideal_words program (agreed_at m fl) (shed_at m fl) f
   outputs u w = output_is m strays fl f us here (agreed_at m fl f) _ _ step inputs lasts u w
 
-  none : (u v : ℕ) → Member m f us u → Member m f us v → caught (fl.account u f) v ≡ false
+  -- each member's vote on a word that someone executes finds the word that it has
+  pub vote_at : (w : ℕ) → w < m.words → (v : ℕ) → m.executes us w v ≡ true → (u : ℕ) → Member m f us u
+      → majority_of (map (polled (by_config m strays fl f us here us u) w) (executors m us w)) ≡ Some (slice_index (fl.account u f).outs w)
+  vote_at w low v runs_it u wu = vote_finds m strays fl f us here (agreed_at m fl f) _ _ step inputs lasts w low v runs_it u wu
+      ∙ ap (λ ws. Some (slice_index ws w)) (sym (outputs u wu))
+
+  -- no member catches a member
+  pub none : (u v : ℕ) → Member m f us u → Member m f us v → caught (fl.account u f) v ≡ false
   none = none_named m strays fl f us here (agreed_at m fl f) _ _ step inputs lasts
 
   -- the next configuration, as the lead unit finds it, and so each member

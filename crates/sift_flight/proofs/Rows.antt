@@ -5,7 +5,7 @@ use Rattle.std.proofs.lemmas.Option.{same_Some, none-some}
 use Rattle.std.specs.FinSet as set
 use Rattle.std.specs.List.{Contains}
 use Rattle.std.proofs.lemmas.List.Elements.{Contains-append_cases}
-use Rattle.sift_base.specs.declared.slot.Slot.TheVariants.{Report}
+use Rattle.sift_base.specs.declared.slots.Slot.TheVariants.{Report}
 use Rattle.sift_base.specs.Units.{has, holds}
 use Rattle.sift_base.specs.laws.Sets.{holds-insert}
 use Rattle.sift_buffer.specs.Cell.{taken, packed}

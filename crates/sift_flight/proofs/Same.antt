@@ -2,7 +2,7 @@
 use Rattle.std.proofs.Common.{◌≡◌, ⊎_elim, inl, inr, ℕ, List, nat_eq, true, false, Option, unwrap_or, if◌then◌else◌, None, refl, sym, ap, ◌∙◌, subst}
 use Rattle.std.proofs.lemmas.Bool.{cases_Bool}
 use Rattle.sift_base.specs.Units.{has}
-use Rattle.sift_base.specs.declared.slot.Slot.{Slot}
+use Rattle.sift_base.specs.declared.slots.Slot.{Slot}
 use Rattle.sift_mission.specs.Data.{FlownMission}
 use Rattle.sift_mission.specs.Slots.{calls, stamp_of, has_turned}
 use Rattle.sift_mission.specs.Fits.{Fits}

@@ -4,7 +4,7 @@ use Rattle.std.specs.Prelude.{◌+ℤ◌, ◌≤ℤ◌}
 use Rattle.std.specs.List.{filter}
 use Rattle.std.proofs.lemmas.Int.{ints}
 use Rattle.sift_base.specs.Units.{has}
-use Rattle.sift_base.specs.declared.slot.Slot.TheVariants.{Clock}
+use Rattle.sift_base.specs.declared.slots.Slot.TheVariants.{Clock}
 use Rattle.sift_base.specs.laws.Counts.{of_filtered}
 use Rattle.sift_clock.specs.Distance.{IsWithin}
 use Rattle.sift_clock.specs.Correction.{is_too_far}
@@ -21,21 +21,21 @@ use Rattle.sift_flight.specs.Headline.{HasLead}
 use Rattle.sift_flight.proofs.Working.{InFrame, Member, by_config, conduct_here, hears, clock_call}
 
 -- what is too far is not within the limit
-too_far_is : (limit z : ℤ) → IsWithin limit z (pos 0) → is_too_far limit (Some z) ≡ true → ⊥
+pub too_far_is : (limit z : ℤ) → IsWithin limit z (pos 0) → is_too_far limit (Some z) ≡ true → ⊥
 too_far_is (pos n) (pos k) near far = omega (arith, ints)
 too_far_is (pos n) (negsuc k) near far = omega (arith, ints)
 too_far_is (negsuc n) (pos k) near far = omega (arith, ints)
 too_far_is (negsuc n) (negsuc k) near far = omega (arith, ints)
 
 module _ (m : FlownMission) (strays : Strays) (fl : Flight) (f : ℕ) (us : List ℕ) (here : InFrame m strays fl f us) where
-  abbrev clk : ℕ → ℤ
+  abbrev pub clk : ℕ → ℤ
   clk u = (fl.account u f).clk
 
-  abbrev reads : ℕ → ℕ → Option ℤ
+  abbrev pub reads : ℕ → ℕ → Option ℤ
   reads u = reading_by (by_config m strays fl f us here us u)
 
   -- each member reads the others well
-  reads_well : (u : ℕ) → Member m f us u → ReadsWell m.error us (λ v. m.works v f) clk u (reads u)
+  pub reads_well : (u : ℕ) → Member m f us u → ReadsWell m.error us (λ v. m.works v f) clk u (reads u)
   reads_well u w = heard_clocks_are_read_well m.skew m.error us (λ v. m.works v f) clk u (fl.heard u f Clock) (m.errors u)
       here.flyable.clocks.admitted.told here.together w.member w.works
       (λ v hv wv ne. let v' : Member m f us v = record { member = hv; works = wv } in (
@@ -50,7 +50,8 @@ module _ (m : FlownMission) (strays : Strays) (fl : Flight) (f : ℕ) (us : List
     drifts = λ u hu wu. here.flyable.clocks.drifts u (here.config.inside u hu);
   }
 
-  next_is : (u : ℕ) → Member m f us u → (fl.account u f).next_clk ≡ next_offsets (m.skew +ℤ m.error) us clk m.drift reads u
+  -- their next offsets are the corrected ones
+  pub next_is : (u : ℕ) → Member m f us u → (fl.account u f).next_clk ≡ next_offsets (m.skew +ℤ m.error) us clk m.drift reads u
   next_is u w = (conduct_here m strays fl f us here u w).next_clk
 
   -- they are together in the next frame

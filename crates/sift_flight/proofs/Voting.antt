@@ -7,9 +7,9 @@ use Rattle.std.proofs.lemmas.Bool.Decides.{eqb_tells}
 use Rattle.std.proofs.lemmas.List.{length-map}
 use Rattle.std.proofs.lemmas.Grind.{same_number_lists}
 use Rattle.sift_base.specs.Units.{has}
-use Rattle.sift_base.specs.declared.slot.Slot.TheVariants.{Out}
+use Rattle.sift_base.specs.declared.slots.Slot.TheVariants.{Out}
 use Rattle.sift_base.specs.laws.Counts.{count-cons, of_filtered, in_filtered}
-use Rattle.sift_vote.specs.Majority.{IsMajority, differs}
+use Rattle.sift_vote.specs.Majority.{IsMajority, differs, majority_of}
 use Rattle.sift_vote.specs.laws.Found.{majority_is_found}
 use Rattle.sift_agree.specs.laws.Taking.{votes-working}
 use Rattle.sift_agree.specs.laws.Winners.{won-agreed}
@@ -22,7 +22,7 @@ use Rattle.sift_flight.proofs.Ideal.{IsStep}
 use Rattle.sift_flight.proofs.Working.{InFrame, Member, by_config, conduct_here, hears, out_call}
 
 -- no more of a filtered list pass a test
-count-filter-≤ : (p q : ℕ → Bool) (us : List ℕ) → count_by p (filter q us) ≤ count_by p us
+pub count-filter-≤ : (p q : ℕ → Bool) (us : List ℕ) → count_by p (filter q us) ≤ count_by p us
 count-filter-≤ p q [] = omega arith
 count-filter-≤ p q (u ∷ us) =
     let rest = count-filter-≤ p q us in
@@ -127,6 +127,16 @@ module _ (m : FlownMission) (strays : Strays) (fl : Flight) (f : ℕ) (us : List
       let c = (conduct_here m strays fl f us here u wu).outputs_count in
       same_number_lists (fl.account u f).outs outs (c ∙ sym step.count) (λ w low. below m.words (omega arith) w u (omega (arith, c)) wu)
 
+  -- a word that someone executes is made by each member as the ideal one
+  pub made_is : (w : ℕ) → w < m.words → (v : ℕ) → m.executes us w v ≡ true → (u : ℕ) → Member m f us u → made (frame_here u) w ≡ slice_index outs w
+  made_is w low v runs u wu = makes w low (kept_by w low v runs) (below w (omega (arith, low))) u wu
+
+  -- and found as the ideal one by each member's vote
+  pub vote_finds : (w : ℕ) → w < m.words → (v : ℕ) → m.executes us w v ≡ true → (u : ℕ) → Member m f us u
+      → majority_of (map (place u w) (executors m us w)) ≡ Some (slice_index outs w)
+  vote_finds w low v runs u wu =
+      (majority_is_found (map (place u w) (executors m us w)) (slice_index outs w)).1 (vote_is w low (kept_by w low v runs) (below w (omega (arith, low))) u wu)
+
   -- no member catches a member for a word
   pub none_polled : (u v : ℕ) → Member m f us u → Member m f us v → poll_catches (frame_here u) v ≡ false
   none_polled u v wu wv = elim (cases_Bool (poll_catches (frame_here u) v)) [
@@ -137,6 +147,5 @@ module _ (m : FlownMission) (strays : Strays) (fl : Flight) (f : ℕ) (us : List
         let both = and_parts (m.executes us w v) _ found.2 in
         let low = below w (omega (arith, found.1)) in
         let at_place = place_is w found.1 low u wu v (in_filtered (m.executes us w) us v wv.member both.0) wv.works in
-        let vote = (majority_is_found (map (place u w) (executors m us w)) (slice_index outs w)).1 (vote_is w found.1 (kept_by w found.1 v both.0) low u wu) in
-        absurd (same_not_differs (slice_index outs w) (rw (at_place, vote) at both.1))
+        absurd (same_not_differs (slice_index outs w) (rw (at_place, vote_finds w found.1 v both.0 u wu) at both.1))
   ]

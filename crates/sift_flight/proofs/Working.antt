@@ -2,8 +2,8 @@
 use Rattle.std.proofs.Common.{false, ◌≡◌, ◌≢◌, ℕ, ◌<◌, List, true, not, ◌&&◌, nat_eq, Option, refl, sym, ap, ◌∙◌, subst, lt-ltb, eq-eqb, ne_eqb}
 use Rattle.std.proofs.lemmas.Bool.{and_from}
 use Rattle.sift_base.specs.Units.{has, HasMargin}
-use Rattle.sift_base.specs.declared.slot.Slot.{Slot}
-use Rattle.sift_base.specs.declared.slot.Slot.TheVariants.{Clock, Sense, RelaySense, Out, Report, RelayReport}
+use Rattle.sift_base.specs.declared.slots.Slot.{Slot}
+use Rattle.sift_base.specs.declared.slots.Slot.TheVariants.{Clock, Sense, RelaySense, Out, Report, RelayReport}
 use Rattle.sift_config.specs.Config.{reader_of}
 use Rattle.sift_skew.specs.Keeping.{AreTogether}
 use Rattle.sift_mission.specs.Data.{FlownMission, IsConfigOf}
@@ -38,10 +38,12 @@ module _ (m : FlownMission) (strays : Strays) (fl : Flight) (f : ℕ) (us : List
   pub member_of : (u : ℕ) → Works m u f → Member m f us u
   member_of u w = record { member = (here.share u w).1; works = w.works }
 
-  flies : (u : ℕ) → Member m f us u → Flies m u f
+  -- a member flies
+  pub flies : (u : ℕ) → Member m f us u → Flies m u f
   flies u w = record { unit = here.config.inside u w.member; whole = here.flyable.script.whole u f w.works }
 
-  config_here : (u : ℕ) → Member m f us u → config_of fl u f ≡ us
+  -- by this configuration
+  pub config_here : (u : ℕ) → Member m f us u → config_of fl u f ≡ us
   config_here u w = (here.share u (works_in u w)).0
 
   -- a unit in the frame, by this configuration
@@ -62,7 +64,7 @@ module _ (m : FlownMission) (strays : Strays) (fl : Flight) (f : ℕ) (us : List
   word u k = own_word (by_config us u) k
 
   -- a member says its own words
-  says : (p q : ℕ) (k : Slot) → Member m f us p → Call m us k p q → fl.said p f k q ≡ word p k
+  pub says : (p q : ℕ) (k : Slot) → Member m f us p → Call m us k p q → fl.said p f k q ≡ word p k
   says p q k w call =
       (here.round.conduct p (flies p w)).said k q
       ∙ (ap (λ c. said_of (by_config c p) k q) (config_here p w)

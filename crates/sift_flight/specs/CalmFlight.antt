@@ -2,8 +2,8 @@
 use Rattle.std.specs.Prelude.{ℕ, ◌-◌, ◌/◌, ◌%◌, [], map, slice_index, false, ◌&&◌, nat_eq, nat_lt, if◌then◌else◌, None, Some, pos}
 use Rattle.std.specs.List.{range_with_len}
 use Rattle.sift_base.specs.Layout.{slot_count}
-use Rattle.sift_base.specs.declared.slot.Slot.{Slot}
-use Rattle.sift_base.specs.declared.slot.Slot.TheVariants.{Clock, Sense, RelaySense, Out, Report, RelayReport}
+use Rattle.sift_base.specs.declared.slots.Slot.{Slot}
+use Rattle.sift_base.specs.declared.slots.Slot.TheVariants.{Clock, Sense, RelaySense, Out, Report, RelayReport}
 use Rattle.sift_buffer.specs.Cell.{packed}
 use Rattle.sift_buffer.specs.Ranges.{Ranges, shared_words}
 use Rattle.sift_buffer.specs.Conduct.{saying, hearing, never}

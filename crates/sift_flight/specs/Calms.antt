@@ -1,7 +1,7 @@
 -- Two calm missions.
 use Rattle.std.specs.Prelude.{ℕ, zero, suc, [], ◌∷◌, false, ◌&&◌, nat_eq}
-use Rattle.sift_base.specs.declared.slot.Slot.{Slot}
-use Rattle.sift_base.specs.declared.slot.Slot.TheVariants.{Clock, Sense, RelaySense, Out, Report, RelayReport}
+use Rattle.sift_base.specs.declared.slots.Slot.{Slot}
+use Rattle.sift_base.specs.declared.slots.Slot.TheVariants.{Clock, Sense, RelaySense, Out, Report, RelayReport}
 use Rattle.sift_lang.specs.declared.tree.Op.TheVariants.{Add, Mul}
 use Rattle.sift_lang.specs.Tree.{number, sense, this_frame, last_frame, binary, output, end, step, TaskTree}
 use Rattle.sift_buffer.specs.Lawful.{Lawful}

@@ -1,6 +1,6 @@
 -- That there are round flights: each mission that fits has one.
 use Rattle.std.specs.Prelude.{◌≡◌, ℕ, ◌<◌, true, Option}
-use Rattle.sift_base.specs.declared.slot.Slot.{Slot}
+use Rattle.sift_base.specs.declared.slots.Slot.{Slot}
 use Rattle.sift_mission.specs.Data.{FlownMission}
 use Rattle.sift_mission.specs.Slots.{calls, stamp_of, has_turned}
 use Rattle.sift_mission.specs.Fits.{Fits}

@@ -5,7 +5,7 @@ use Rattle.sift_buffer.specs.Core.{Core}
 use Rattle.sift_mission.specs.Data.{FlownMission}
 use Rattle.sift_conduct.specs.Conduct.{Account, Places}
 use Rattle.sift_conduct.specs.Acts.{said_places, heard_places}
-use Rattle.sift_base.specs.declared.slot.Slot.{Slot}
+use Rattle.sift_base.specs.declared.slots.Slot.{Slot}
 use Rattle.sift_buffer.specs.Cell.{taken}
 use Rattle.sift_buffer.specs.Conduct.{Stray, stray_to}
 use Rattle.sift_mission.specs.Slots.{calls, stamp_of, has_turned}

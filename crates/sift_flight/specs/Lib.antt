@@ -7,8 +7,11 @@ pub mod Figures
 pub mod Whole
 pub mod Alike
 pub mod Headline
+pub mod Lies
+pub mod Caught
 pub mod Calm
 pub mod CalmFlight
 pub mod Calms
 pub mod Rows
+pub mod LieRows
 pub mod laws

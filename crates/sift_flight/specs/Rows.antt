@@ -2,8 +2,8 @@
 use Rattle.std.specs.Prelude.{None, ◌≡◌, ℕ, List, [], ◌∷◌, Bool, true, not, ◌&&◌, nat_eq, nat_lt, if◌then◌else◌, Some, pos}
 use Rattle.std.specs.FinSet as set
 use Rattle.sift_base.specs.Units.{has, HasMargin}
-use Rattle.sift_base.specs.declared.slot.Slot.{Slot}
-use Rattle.sift_base.specs.declared.slot.Slot.TheVariants.{Out, Report, RelayReport}
+use Rattle.sift_base.specs.declared.slots.Slot.{Slot}
+use Rattle.sift_base.specs.declared.slots.Slot.TheVariants.{Out, Report, RelayReport}
 use Rattle.sift_buffer.specs.Cell.{packed}
 use Rattle.sift_buffer.specs.Conduct.{stray_to}
 use Rattle.sift_exec.specs.Conviction.{nobody, next_by}

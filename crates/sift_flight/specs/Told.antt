@@ -1,7 +1,7 @@
 -- What a flight of the code tells: words and accounts by unit, frame and slot; and when it is whole.
 use Rattle.std.specs.Prelude.{◌≡◌, ℕ, ◌<◌, ◌≤◌, List, [], length, slice_index_or, map, true, false, None, if◌then◌else◌, pos, ℤ}
 use Rattle.sift_base.specs.Units.{has}
-use Rattle.sift_base.specs.declared.layout.Layout.{Layout}
+use Rattle.sift_base.specs.declared.slots.Layout.{Layout}
 use Rattle.sift_buffer.specs.Journals.{Pages, no_pages, said_in, heard_in, IsJournalOf}
 use Rattle.sift_clock.specs.Distance.{IsWithin}
 use Rattle.sift_exec.specs.Conviction.{nobody}

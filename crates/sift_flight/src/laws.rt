@@ -1,11 +1,13 @@
 //! The laws of flights: where round flights come from, that there is one and at most one, and the headline.
 
 ghost use Rattle.sift_flight.specs.Calms.{CalmMissionsFly};
+ghost use Rattle.sift_flight.specs.Caught.{LiarsAreOut, OwnWordsCostNothing};
 ghost use Rattle.sift_flight.specs.Existence.{AtMostOneHearsThem, EachMissionHasARoundFlight, EachStrayHearingHasARoundFlight};
 ghost use Rattle.sift_flight.specs.Headline.{HeadlineHolds};
 ghost use Rattle.sift_flight.specs.Homing.{FlightsThatComeHomeAreRound};
 ghost use Rattle.sift_flight.specs.Landing.{LawfulCoresHearLawfully, UnitsHearByTheEquations, LandedFramesAreRound};
 ghost use Rattle.sift_flight.specs.Flight.{AtMostOneIsRound};
+ghost use Rattle.sift_flight.specs.LieRows.{LieRows};
 ghost use Rattle.sift_flight.specs.Rows.{RowsHold};
 
 /// What is heard in a lawful core is heard lawfully.
@@ -56,6 +58,18 @@ pub fn headline_holds()
     ensures { HeadlineHolds }
 {}
 
+/// In each frame with margin of a round flight: a working unit that is lied to catches the liar, and
+/// whoever lies to two of them is out of the next configuration.
+pub fn liars_are_out()
+    ensures { LiarsAreOut }
+{}
+
+/// Whoever says its own words in such a frame is caught by no working unit, whatever it reports of
+/// others and whatever it said before.
+pub fn own_words_cost_nothing()
+    ensures { OwnWordsCostNothing }
+{}
+
 /// Two small missions meet all premises of these laws: they can be flown, their core and boards have
 /// landed, and their frame has margin.
 pub fn calm_missions_fly()
@@ -65,4 +79,9 @@ pub fn calm_missions_fly()
 /// Each definition of flights accepts one row and refuses another.
 pub fn rows_hold()
     ensures { RowsHold }
+{}
+
+/// So does each definition of lies and of what they cost.
+pub fn lie_rows_hold()
+    ensures { LieRows }
 {}

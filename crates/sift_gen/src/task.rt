@@ -8,7 +8,7 @@ ghost use Rattle.sift_base.specs.Draw.{after, draw_at};
 ghost use Rattle.sift_gen.specs.Tasks.{draws_by, pattern_of, sensor_name, task_name, text_by};
 ghost use Rattle.sift_gen.specs.Scenario.{array_of, number, pattern_from, task_place, task_table, task_tables};
 
-use crate::entry::{array_of_one, with};
+use crate::scenario::{array_of_one, with};
 use sift_base::{Draw, NoMemory};
 use std::alloc::Global;
 use toml::{Table, Value};

@@ -2,8 +2,8 @@
 use Rattle.std.specs.Prelude.{◌≡◌, ◌+◌, ℕ, List, Some, drop, Contains}
 use Rattle.sift_io.specs.Flow.{next_count, Inflow}
 use Rattle.sift_io.specs.Reading.{GivesMost, given_count, faults_after_read, ends_after_read}
-use Rattle.sift_io.specs.declared.bytes_in.BytesIn.{BytesIn}
-use Rattle.sift_io.specs.declared.reading.Got.{Got}
+use Rattle.sift_io.specs.declared.memory.BytesIn.{BytesIn}
+use Rattle.sift_io.specs.declared.flow.Got.{Got}
 
 -- the bytes that weren't read yet
 abbrev pub bytes_left : BytesIn → List ℕ

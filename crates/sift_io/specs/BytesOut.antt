@@ -2,8 +2,8 @@
 use Rattle.std.specs.Prelude.{◌≡◌, ℕ, Some, Contains}
 use Rattle.sift_io.specs.Flow.{next_count, Outflow}
 use Rattle.sift_io.specs.Writing.{TakesMost, faults_after_write}
-use Rattle.sift_io.specs.declared.bytes_out.BytesOut.{BytesOut}
-use Rattle.sift_io.specs.declared.writing.Put.{Put}
+use Rattle.sift_io.specs.declared.memory.BytesOut.{BytesOut}
+use Rattle.sift_io.specs.declared.flow.Put.{Put}
 
 -- it tells its bytes, and counts its faults
 abbrev pub outflow_of : BytesOut → Outflow

@@ -2,8 +2,8 @@
 use Rattle.std.specs.Prelude.{◌≡◌, ◌≤◌, ◌+◌, ℕ, min, List, [], length, take, Option, ⊤}
 use Rattle.std.specs.Io.KnownBytes.{Consumes, Keeps, IsAtEnd}
 use Rattle.sift_io.specs.Flow.{Rose, next_count, Inflow}
-use Rattle.sift_io.specs.declared.reading.Got.{Got}
-use Rattle.sift_io.specs.declared.reading.Got.TheVariants.{Taken, End, Failed}
+use Rattle.sift_io.specs.declared.flow.Got.{Got}
+use Rattle.sift_io.specs.declared.flow.Got.TheVariants.{Taken, End, Failed}
 use Rattle.sift_io.specs.declared.whole.ReadStop.{ReadStop}
 use Rattle.sift_io.specs.declared.whole.ReadStop.TheVariants.{Failed as Faulty, TooLong, NoMemory}
 

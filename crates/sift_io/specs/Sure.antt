@@ -2,8 +2,8 @@
 use Rattle.std.specs.Prelude.{◌≡◌, ◌+◌, ℕ, List, Some, drop}
 use Rattle.sift_io.specs.Flow.{Inflow}
 use Rattle.sift_io.specs.Reading.{GivesMost, given_count, ends_after_read}
-use Rattle.sift_io.specs.declared.sure.SureIn.{SureIn}
-use Rattle.sift_io.specs.declared.reading.Got.{Got}
+use Rattle.sift_io.specs.declared.memory.SureIn.{SureIn}
+use Rattle.sift_io.specs.declared.flow.Got.{Got}
 
 -- the bytes that weren't read yet
 abbrev pub sure_left : SureIn → List ℕ

@@ -2,8 +2,8 @@
 use Rattle.std.specs.Prelude.{◌≡◌, ◌<◌, ◌≤◌, ℕ, min, List, length, take, Option, Result, Ok, Err, ⊤}
 use Rattle.std.specs.Io.KnownBytes.{Appends, Keeps}
 use Rattle.sift_io.specs.Flow.{next_count, Outflow}
-use Rattle.sift_io.specs.declared.writing.Put.{Put}
-use Rattle.sift_io.specs.declared.writing.Put.TheVariants.{Took, Failed}
+use Rattle.sift_io.specs.declared.flow.Put.{Put}
+use Rattle.sift_io.specs.declared.flow.Put.TheVariants.{Took, Failed}
 use Rattle.sift_io.specs.declared.whole.WriteStop.{WriteStop}
 
 -- a write takes no more bytes than there are

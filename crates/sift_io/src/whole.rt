@@ -51,6 +51,7 @@ pub fn read_all<S: Source>(alloc: Global, source: &mut S, limit: usize) -> Resul
     let mut all = Vec::new(alloc);
     let mut piece = [0; PIECE];
     loop {
+        // One byte past the limit is asked for, since input of just the limit is told from a longer one by it.
         let room = PIECE.min(limit + 1 - all.len());
         match source.read(&mut piece[..room]) {
             Got::Taken(n) if n > limit - all.len() => return Err(ReadStop::TooLong),

@@ -1,5 +1,5 @@
 pub mod Alike
 pub mod Existing
-pub mod Headlined
 pub mod Planned
+pub mod Reported
 pub mod Statuses

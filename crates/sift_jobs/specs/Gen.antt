@@ -3,7 +3,7 @@ use Rattle.std.specs.Prelude.{ℕ, ◌≡◌, List, Option, None, option_map}
 use Rattle.sift_gen.specs.Scenario.{IsTextOf}
 use Rattle.sift_options.specs.declared.setting.Options.{Options}
 use Rattle.sift_reply.specs.Duty.{Duty}
-use Rattle.sift_reply.specs.Reply.{Reply, done}
+use Rattle.sift_reply.specs.Reply.{done}
 use Rattle.sift_jobs.specs.declared.scenario.GenJob.{GenJob}
 
 -- what options ask for: the number has to be given

@@ -7,7 +7,7 @@ use Rattle.sift_load.specs.Loads.{no_mission_statuses}
 use Rattle.sift_mission.specs.Data.{MissionData, shapes_in}
 use Rattle.sift_options.specs.Options.{within}
 use Rattle.sift_options.specs.declared.setting.Options.{Options}
-use Rattle.sift_planner.specs.declared.sizes.NoRoomAt.{NoRoomAt}
+use Rattle.sift_planner.specs.declared.planning.NoRoomAt.{NoRoomAt}
 use Rattle.sift_planner.specs.Plans.{longest_period}
 use Rattle.sift_planner.specs.Sizes.{ArePlans, IsFirstWithoutRoom}
 use Rattle.sift_planner.specs.Text.{tables_text}

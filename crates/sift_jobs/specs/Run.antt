@@ -1,4 +1,4 @@
--- The command `run`: by which workers it flies, as for every command that flies, the report of a flight in the version asked for, and its headline.
+-- The command `run`: by which workers it flies, as for every command that flies, the report of a flight in the version asked for, and what its lines tell.
 use Rattle.std.specs.Prelude.{ℕ, Option, Some, None, option_map, unwrap_or, nat_eq, if◌then◌else◌, ◌≡◌, List}
 use Rattle.sift_base.specs.Units.{unit_limit}
 use Rattle.sift_flight.specs.Flight.{Strays, Flight}
@@ -7,9 +7,11 @@ use Rattle.sift_mission.specs.Data.{MissionData}
 use Rattle.sift_options.specs.Options.{within}
 use Rattle.sift_options.specs.declared.setting.Options.{Options}
 use Rattle.sift_reply.specs.Reply.{Reply, done_status}
-use Rattle.sift_line.specs.declared.version.Version.{Version}
-use Rattle.sift_line.specs.declared.version.Version.TheVariants.{One, Two}
+use Rattle.sift_line.specs.declared.line.ReportLine.{ReportLine}
+use Rattle.sift_line.specs.declared.line.Version.{Version}
+use Rattle.sift_line.specs.declared.line.Version.TheVariants.{One, Two}
 use Rattle.sift_mission.specs.Flown.{flown}
+use Rattle.sift_report.specs.Caught.{ReportCaught}
 use Rattle.sift_report.specs.Headline.{ReportHeadline}
 use Rattle.sift_report.specs.Sheet.{sheet_of}
 use Rattle.sift_jobs.specs.Flights.{RepliesWith, IsFlightOf, IsTelling, fewest_workers}
@@ -47,19 +49,27 @@ run_job_of options =
 abbrev pub RunGives : (given : MissionData → Strays → Type 0) → RunJob → MissionData → Reply → Type 0
 RunGives given job mission = RepliesWith given mission (Report job.version)
 
--- ---- its headline: what the lines of its report tell
+-- ---- what the lines of its report tell
 
 module _ (given : MissionData → Strays → Type 0) where
-  -- the text is the report, in this version, of a flight of the mission that the bytes state: it prints lines of which the headline holds
-  pub record IsHeadlined (version : Version) (bytes text : List ℕ) : Type 0 where
+  -- the text is the report, in this version, of a flight of the mission that the bytes state, and this holds of the mission and the lines
+  pub record IsReported (Holds : MissionData → List ReportLine → Type 0) (version : Version) (bytes text : List ℕ) : Type 0 where
     pub mission : MissionData
     pub flight : Flight
     pub stated : States bytes mission
     pub flies : IsFlightOf given mission flight
     pub told : IsTelling mission flight (Report version) text
-    pub headline : ReportHeadline mission (sheet_of (flown mission) flight version)
+    pub holds : Holds mission (sheet_of (flown mission) flight version)
 
   -- so it is, in the version asked for, with each reply of `run` that has the status 0
+  abbrev pub RunIsReported : (MissionData → List ReportLine → Type 0) → Type 0
+  RunIsReported Holds = (job : RunJob) (bytes : List ℕ) (reply : Reply) → LoadsThen (RunGives given job) bytes reply → reply.status ≡ done_status
+      → IsReported Holds job.version bytes reply.text
+
+  -- its lines have the headline
   abbrev pub RunIsHeadlined : Type 0
-  RunIsHeadlined = (job : RunJob) (bytes : List ℕ) (reply : Reply) → LoadsThen (RunGives given job) bytes reply → reply.status ≡ done_status
-      → IsHeadlined job.version bytes reply.text
+  RunIsHeadlined = RunIsReported ReportHeadline
+
+  -- and they tell what lies cost
+  abbrev pub RunTellsCaught : Type 0
+  RunTellsCaught = RunIsReported ReportCaught

@@ -5,7 +5,7 @@ ghost use Rattle.sift_jobs.specs.Unflown.{IdealGives, CheckGives};
 ghost use Rattle.sift_jobs.specs.Existence.{MissionsHaveFlights, TrialsAreThere, VotesAreThere};
 ghost use Rattle.sift_jobs.specs.Flights.{AreCalm};
 ghost use Rattle.sift_jobs.specs.Gen.{gen_duty};
-ghost use Rattle.sift_jobs.specs.Run.{RunIsHeadlined, RunGives};
+ghost use Rattle.sift_jobs.specs.Run.{RunIsHeadlined, RunGives, RunTellsCaught};
 ghost use Rattle.sift_jobs.specs.Plan.{PlanNumbers, PlanGives, plan_statuses};
 ghost use Rattle.sift_jobs.specs.Trial.{trial_duty};
 ghost use Rattle.sift_jobs.specs.Votes.{VotesGives};
@@ -33,7 +33,7 @@ use sift_mission::fitting_parts_make_a_flight;
 use sift_planner::{one_plan_each, one_size_without_room};
 use sift_program::sound_programs_have_shapes;
 use sift_reply::NoWork;
-use sift_report::{alike_flights_have_one_text, the_headline_is_printed};
+use sift_report::{alike_flights_have_one_text, caught_is_printed, the_headline_is_printed};
 use sift_scenario::{one_mission, stated_missions_fit};
 use sift_trial::{drawn_missions_have_no_storms, drawn_trees_are_missions};
 
@@ -156,6 +156,14 @@ pub fn run_is_headlined<F: Flier>()
 {
     stated_missions_fit();
     the_headline_is_printed();
+}
+
+/// They tell each lie to a working unit, whom it costs its place, and nobody who says its own words.
+pub fn run_tells_caught<F: Flier>()
+    ensures { (flier : F) → RunTellsCaught (F.gives flier) }
+{
+    stated_missions_fit();
+    caught_is_printed();
 }
 
 /// Each mission has a flight over any strays that the rogues may give, so `votes` and `trial` have a reply.

@@ -5,7 +5,7 @@ use Rattle.std.specs.List.{HoldsAt, slice_get}
 use Rattle.std.proofs.lemmas.Option.{slice_get-get_or, slice_get_past}
 use Rattle.sift_line.specs.declared.line.ReportLine.{ReportLine}
 use Rattle.sift_line.specs.declared.line.ReportLine.TheVariants.{Unit as unit, Faulty, Idle, Frame, Last}
-use Rattle.sift_line.specs.declared.bad.Bad.{Bad}
+use Rattle.sift_line.specs.declared.catch.Bad.{Bad}
 use Rattle.arrayvec.specs.ArrayVec.{ArrayVec as Items}
 use Rattle.sift_mission.specs.Data.{MissionData}
 use Rattle.sift_report.specs.Headline.{IsUnitsLine}

@@ -6,8 +6,8 @@ use Rattle.sift_line.specs.declared.line.ReportLine.{ReportLine}
 use Rattle.sift_judge.specs.Laws.{OneVerdict}
 use Rattle.sift_judge.specs.Verdict.{Rule, form, same_configuration, same_inputs, ideal_outputs, no_false_accusation, exact_removal, clock_skew, true_margin, number_of}
 use Rattle.sift_judge.specs.Verdict.{turn_of, Breaks, IsFirstBroken, IsVerdict}
-use Rattle.sift_judge.specs.declared.verdict.Verdict.{Verdict}
-use Rattle.sift_judge.specs.declared.verdict.Verdict.TheVariants.{Yes, No}
+use Rattle.sift_judge.specs.declared.judging.Verdict.{Verdict}
+use Rattle.sift_judge.specs.declared.judging.Verdict.TheVariants.{Yes, No}
 
 -- ---- numbers
 

@@ -6,10 +6,10 @@ use Rattle.sift_mission.specs.PartsFit.{PartsFit}
 use Rattle.sift_flight.specs.Flight.{Flight, Strays, IsRound}
 use Rattle.sift_report.specs.Sheet.{sheet_of}
 use Rattle.sift_line.specs.declared.line.ReportLine.{ReportLine}
-use Rattle.sift_line.specs.declared.version.Version.{Version}
+use Rattle.sift_line.specs.declared.line.Version.{Version}
 use Rattle.sift_judge.specs.Verdict.{Breaks, IsVerdict, Rule}
-use Rattle.sift_judge.specs.declared.verdict.Verdict.{Verdict}
-use Rattle.sift_judge.specs.declared.verdict.Verdict.TheVariants.{Yes}
+use Rattle.sift_judge.specs.declared.judging.Verdict.{Verdict}
+use Rattle.sift_judge.specs.declared.judging.Verdict.TheVariants.{Yes}
 
 -- lines have one verdict at most
 abbrev pub OneVerdict : Type 0

@@ -5,8 +5,8 @@ use Rattle.sift_report.specs.Headline.{HasForm}
 use Rattle.sift_report.specs.Headline.{ReportHeadline, TellsClockSkew, TellsExactRemoval, TellsIdealOutputs, TellsNoFalseAccusation, TellsSameConfiguration, TellsSameInputs, TellsTrueMargin}
 use Rattle.sift_report.specs.Told.{HadMarginTold, HasMarginTold}
 use Rattle.sift_line.specs.declared.line.ReportLine.{ReportLine}
-use Rattle.sift_judge.specs.declared.verdict.Verdict.{Verdict}
-use Rattle.sift_judge.specs.declared.verdict.Verdict.TheVariants.{Yes, No}
+use Rattle.sift_judge.specs.declared.judging.Verdict.{Verdict}
+use Rattle.sift_judge.specs.declared.judging.Verdict.TheVariants.{Yes, No}
 
 -- ---- the rules
 

@@ -7,9 +7,8 @@ ghost use Rattle.sift_mission.specs.Parts.{data_of};
 ghost use Rattle.sift_report.specs.Headline.{TellsExactRemoval, TellsNoFalseAccusation};
 ghost use Rattle.sift_report.specs.Told.{told_at, works_in};
 
-use crate::configuration::are_same_units;
-use crate::told::caught_told;
-use crate::working::{config_told, working_at, working_in};
+use crate::form::caught_told;
+use crate::working::{are_same_units, config_told, working_at, working_in};
 use sift_base::{UnitId, UnitSet};
 use sift_config::Config;
 use sift_mission::{Mission, a_mission_fits};

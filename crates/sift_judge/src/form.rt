@@ -1,17 +1,124 @@
-//! The form of a report: which lines stand where.
+//! The form of a report: which lines stand where, and what each tells.
 
-ghost use Rattle.std.specs.Prelude.{◌≡◌, ◌<◌, ◌↔◌, ℕ, true, IfNone, IfSome, IsSomeAnd, IsTrue, Option, ℤ, Bool, List, length, ◌+◌, ◌*◌, Some};
-ghost use Rattle.sift_base.specs.Units.{holds};
+ghost use Rattle.std.specs.Prelude.{◌≡◌, ◌≤◌, option_map, ◌<◌, ◌↔◌, ℕ, true, IfNone, IfSome, IsSomeAnd, IsTrue, Option, ℤ, Bool, List, length, ◌+◌, ◌*◌, Some};
 ghost use Rattle.sift_mission.specs.Parts.{data_of};
+ghost use Rattle.sift_report.specs.Told.{line_at, told_at, works_in};
+ghost use Rattle.sift_judge.specs.Clocks.{clock_told};
+ghost use Rattle.sift_base.specs.Units.{holds};
 ghost use Rattle.sift_report.specs.Headline.{HasForm, IsUnitsLine};
-ghost use Rattle.sift_report.specs.Told.{line_at, works_in};
 ghost use Rattle.sift_line.specs.declared.line.ReportLine.TheVariants.{Frame as frame, Last as last};
 ghost use Rattle.sift_judge.specs.Turns.{HasForms, IsFirstWithoutForm};
 
-use crate::told::line_at;
-use sift_base::{UnitId, UnitSet};
+use sift_base::{UnitId, UnitSet, Word};
+use sift_config::Config;
 use sift_mission::Mission;
 use sift_report::ReportLine;
+
+// ---- what lines tell
+
+/// Line i of a frame, where there is one: the lines of the units come in their order, and then that of the whole frame. After the
+/// last frame only the last line is left.
+fn line_at<'a>(mission: &Mission, lines: &'a [ReportLine], f: u32, i: u8) -> Option<&'a ReportLine>
+    requires frame { f ≤ (data_of mission.now).frames }
+    ensures { option_map (λ line. line.now) result ≡ line_at (data_of mission.now) lines.now f i }
+{
+    let width = usize::from(mission.parts().units) + 1;
+    lines.get(f as usize * width + usize::from(i))
+}
+
+/// The configuration that line i of a frame tells, where it tells one.
+pub(crate) fn config_at(mission: &Mission, lines: &[ReportLine], f: u32, i: u8) -> Option<Config>
+    requires frame { f ≤ (data_of mission.now).frames }
+    ensures { result ≡ (told_at (data_of mission.now) lines.now f i).config }
+{
+    match line_at(mission, lines, f, i)? {
+        ReportLine::Unit { cfg, .. } | ReportLine::Last { cfg, .. } => Some(*cfg),
+        _ => None,
+    }
+}
+
+/// The agreed words that a unit tells.
+pub(crate) fn inputs_told<'a>(
+    mission: &Mission,
+    lines: &'a [ReportLine],
+    f: u32,
+    u: UnitId,
+) -> &'a [Word]
+    requires frame { f ≤ (data_of mission.now).frames }
+    ensures { result.now ≡ (told_at (data_of mission.now) lines.now f u).inputs }
+{
+    match line_at(mission, lines, f, u.get()) {
+        Some(ReportLine::Unit { ins, .. }) => ins.as_slice(),
+        _ => &[],
+    }
+}
+
+/// The voted words that a unit tells.
+pub(crate) fn outputs_told<'a>(
+    mission: &Mission,
+    lines: &'a [ReportLine],
+    f: u32,
+    u: UnitId,
+) -> &'a [Word]
+    requires frame { f ≤ (data_of mission.now).frames }
+    ensures { result.now ≡ (told_at (data_of mission.now) lines.now f u).outputs }
+{
+    match line_at(mission, lines, f, u.get()) {
+        Some(ReportLine::Unit { outs, .. }) => outs.as_slice(),
+        _ => &[],
+    }
+}
+
+/// The offset of its clock that a unit tells, in ticks.
+pub(crate) fn clock_told(mission: &Mission, lines: &[ReportLine], f: u32, u: UnitId) -> i64
+    requires frame { f ≤ (data_of mission.now).frames }
+    ensures { result ≡ clock_told (data_of mission.now) lines.now f u }
+{
+    match line_at(mission, lines, f, u.get()) {
+        Some(ReportLine::Unit { clk, .. }) => *clk,
+        _ => 0,
+    }
+}
+
+/// The units that a unit tells that it caught, in whatever way.
+pub(crate) fn caught_told(mission: &Mission, lines: &[ReportLine], f: u32, u: UnitId) -> UnitSet
+    requires frame { f ≤ (data_of mission.now).frames }
+    ensures { result ≡ (told_at (data_of mission.now) lines.now f u).caught }
+{
+    match line_at(mission, lines, f, u.get()) {
+        Some(ReportLine::Unit { bad, .. }) => bad.units(),
+        _ => UnitSet::empty(),
+    }
+}
+
+/// The skew and the slack that the line of a whole frame tells, in ticks.
+pub(crate) fn figures_told(
+    mission: &Mission,
+    lines: &[ReportLine],
+    f: u32,
+) -> (Option<i64>, Option<i64>)
+    requires frame { f ≤ (data_of mission.now).frames }
+    ensures skew { result.0 ≡ (told_at (data_of mission.now) lines.now f (data_of mission.now).units).skew }
+    ensures slack { result.1 ≡ (told_at (data_of mission.now) lines.now f (data_of mission.now).units).slack }
+{
+    match line_at(mission, lines, f, mission.parts().units) {
+        Some(ReportLine::Frame { skew, slack, .. }) => (*skew, *slack),
+        _ => (None, None),
+    }
+}
+
+/// The margin that line i of a frame tells, or that it is lost where the line tells none.
+pub(crate) fn margin_at(mission: &Mission, lines: &[ReportLine], f: u32, i: u8) -> bool
+    requires frame { f ≤ (data_of mission.now).frames }
+    ensures { result ≡ (told_at (data_of mission.now) lines.now f i).margin }
+{
+    match line_at(mission, lines, f, i) {
+        Some(ReportLine::Frame { margin, .. } | ReportLine::Last { margin, .. }) => *margin,
+        _ => false,
+    }
+}
+
+// ---- which stand where
 
 /// The first frame whose lines don't stand in their places, where there is one.
 pub(crate) fn first_without_form(mission: &Mission, lines: &[ReportLine]) -> Option<u32>

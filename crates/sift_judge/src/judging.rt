@@ -7,23 +7,36 @@ ghost use Rattle.sift_report.specs.Headline.{FrameHeadline, TellsSameConfigurati
 ghost use Rattle.sift_report.specs.Told.{HadMarginTold, HasMarginTold, agreed_told, shed_told};
 ghost use Rattle.sift_judge.specs.Turns.{HasForms, IsFirstInFrame, KeepsFrame, KnowsBefore, RunsBefore};
 ghost use Rattle.sift_judge.specs.Verdict.{IsVerdict};
+ghost use Rattle.sift_judge.specs.Laws.{IsYesWhereNothingBreaks, OneVerdict, SheetsAreJudgedYes};
 
-use crate::clocks::has_clock_skew;
-use crate::configuration::has_same_configuration;
 use crate::faults::{has_exact_removal, has_no_false_accusation};
 use crate::form::first_without_form;
-use crate::margin::has_true_margin;
-use crate::verdict::Verdict;
-use crate::words::{has_ideal_outputs, has_same_inputs};
-use crate::working::{agreed_told, is_sound_told, shed_told};
+use crate::words::{has_clock_skew, has_ideal_outputs, has_same_inputs};
+use crate::working::{
+    agreed_told, has_same_configuration, has_true_margin, is_sound_told, shed_told,
+};
 use sift_mission::Mission;
 use sift_program::Ideal;
-use sift_report::ReportLine;
+use sift_report::{ReportLine, the_headline_is_printed};
+
+// ---- what it answers
+
+/// Whether lines are a report that a mission may have.
+#[derive(Clone, Copy)]
+pub enum Verdict {
+    /// They are: they have the headline of its reports.
+    Yes,
+    /// They aren't: in this frame they break the rule of this number, 1 to 8, and no rule before it.
+    No { frame: u32, rule: u8 },
+}
+
+// ---- the judge
 
 /// Judges the lines of a report of a mission, without a flight. It takes no memory.
 pub fn judge(mission: &Mission, lines: &[ReportLine]) -> Verdict
     ensures { IsVerdict (data_of mission.now) lines.now result }
 {
+    // Each other rule reads lines at their places, so all forms are judged first.
     match first_without_form(mission, lines) {
         Some(frame) => Verdict::No { frame, rule: 1 },
         None => judge_frames(mission, lines),
@@ -142,4 +155,25 @@ fn run_ideal(ideal: &mut Ideal, mission: &Mission, lines: &[ReportLine], f: u32)
         agreed_told(mission, lines, f),
         shed_told(mission, lines, f),
     );
+}
+
+// ---- laws
+
+/// Lines have one verdict at most.
+pub fn lines_have_one_verdict()
+    ensures { OneVerdict }
+{}
+
+/// The lines of the report of a round flight are judged yes.
+pub fn sheets_are_judged_yes()
+    ensures { SheetsAreJudgedYes }
+{
+    the_headline_is_printed();
+}
+
+/// Lines are judged yes exactly where they break no rule, since they have a verdict.
+pub fn yes_is_where_nothing_breaks(mission: &Mission, lines: &[ReportLine])
+    ensures { IsYesWhereNothingBreaks (data_of mission.now) lines.now }
+{
+    judge(mission, lines);
 }

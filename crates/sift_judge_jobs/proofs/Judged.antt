@@ -1,20 +1,21 @@
 -- The report that `run` gives is judged yes.
 use Rattle.std.proofs.Common.{◌≡◌, ◌∙◌, inl, inr, ℕ, List, ap, refl, subst, sym}
 use Rattle.sift_flight.specs.Flight.{Strays}
-use Rattle.sift_jobs.specs.Run.{IsHeadlined, RunIsHeadlined}
+use Rattle.sift_jobs.specs.Run.{IsReported, RunIsHeadlined}
 use Rattle.sift_judge.specs.Laws.{OneVerdict}
 use Rattle.sift_judge.specs.Verdict.{IsVerdict}
-use Rattle.sift_judge.specs.declared.verdict.Verdict.TheVariants.{Yes}
+use Rattle.sift_judge.specs.declared.judging.Verdict.TheVariants.{Yes}
 use Rattle.sift_load.specs.Laws.{OneMissionIsStated, StatedMissionsAreUnrefused}
 use Rattle.sift_load.specs.Loads.{LoadsThen, States}
 use Rattle.sift_mission.specs.Data.{MissionData}
 use Rattle.sift_mission.specs.Flown.{flown}
 use Rattle.sift_reply.specs.Reply.{Reply, done}
+use Rattle.sift_report.specs.Headline.{ReportHeadline}
 use Rattle.sift_report.specs.Sheet.{sheet_of}
 use Rattle.sift_line.specs.Texts.{LinesComeApart, texts_of}
 use Rattle.sift_report.specs.Versions.{SheetsHaveTheirVersion}
 use Rattle.sift_line.specs.declared.line.ReportLine.{ReportLine}
-use Rattle.sift_line.specs.declared.version.Version.{Version}
+use Rattle.sift_line.specs.declared.line.Version.{Version}
 use Rattle.sift_judge_jobs.specs.Divided.{AreDivided}
 use Rattle.sift_judge_jobs.specs.Judge.{JudgeGives, ReportGives, told}
 use Rattle.sift_judge_jobs.specs.Judged.{RunsAreJudgedYes}
@@ -57,7 +58,7 @@ module _ (version : Version) (document report : List ℕ) (mission : MissionData
 -- the sheet's lines are read from it
 sheet_read :
     (given : MissionData → Strays → Type 0) → SheetsHaveTheirVersion → LinesComeApart
-    → (version : Version) (document report : List ℕ) (is : IsHeadlined given version document report)
+    → (version : Version) (document report : List ℕ) (is : IsReported given ReportHeadline version document report)
     → AreRead version report (sheet_of (flown is.mission) is.flight version)
 sheet_read given versions apart version document report is = record {
   all = λ k d low. record { holds = is.told.0 k d low; told = versions (flown is.mission) is.flight version k d low };
@@ -69,6 +70,6 @@ pub judged_yes :
     (given : MissionData → Strays → Type 0) → OneVerdict → SheetsHaveTheirVersion → LinesComeApart
     → OneMissionIsStated → StatedMissionsAreUnrefused → RunIsHeadlined given → RunsAreJudgedYes given
 judged_yes given verdicts versions apart one_mission unrefused headlined run judge document report came same gives divided judged =
-    let is : IsHeadlined given run.version document report = headlined run document (done report) gives refl in
+    let is : IsReported given ReportHeadline run.version document report = headlined run document (done report) gives refl in
     of_input run.version document report is.mission (sheet_of (flown is.mission) is.flight run.version) verdicts
-    (sheet_read given versions apart run.version document report is) is.headline one_mission unrefused is.stated judge _ came same divided judged
+    (sheet_read given versions apart run.version document report is) is.holds one_mission unrefused is.stated judge _ came same divided judged

@@ -8,7 +8,7 @@ use Rattle.sift_mission.specs.Data.{MissionData}
 use Rattle.sift_reply.specs.Duty.{GivesOne}
 use Rattle.sift_reply.specs.Reply.{Reply}
 use Rattle.sift_line.specs.declared.line.ReportLine.{ReportLine}
-use Rattle.sift_line.specs.declared.version.Version.{Version}
+use Rattle.sift_line.specs.declared.line.Version.{Version}
 use Rattle.sift_judge_jobs.specs.Judge.{ReportGives, judge_duty, no_line, told}
 use Rattle.sift_judge_jobs.specs.declared.judge.JudgeJob.{JudgeJob}
 use Rattle.sift_judge_jobs.proofs.Divisions.{one_document, one_report}

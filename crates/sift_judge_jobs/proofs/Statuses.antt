@@ -1,12 +1,12 @@
 -- The statuses of the replies of `judge` are its own.
 use Rattle.std.proofs.Common.{◌≡◌, inl, inr, ℕ, List, [], ◌∷◌, Contains, lit<, refl, sym, subst, arith}
-use Rattle.sift_judge.specs.declared.verdict.Verdict.{Verdict}
-use Rattle.sift_judge.specs.declared.verdict.Verdict.TheVariants.{Yes, No}
+use Rattle.sift_judge.specs.declared.judging.Verdict.{Verdict}
+use Rattle.sift_judge.specs.declared.judging.Verdict.TheVariants.{Yes, No}
 use Rattle.sift_load.specs.Laws.{StatusesAreOwn}
 use Rattle.sift_mission.specs.Data.{MissionData}
 use Rattle.sift_reply.specs.Duty.{HasOwnStatuses}
 use Rattle.sift_reply.specs.Reply.{Reply, done_status, shared_statuses}
-use Rattle.sift_line.specs.declared.version.Version.{Version}
+use Rattle.sift_line.specs.declared.line.Version.{Version}
 use Rattle.sift_judge_jobs.specs.Judge.{JudgeGives, ReportGives, judge_duty, judge_statuses, judged_no_status, no_line_status, told}
 use Rattle.sift_judge_jobs.specs.declared.judge.JudgeJob.{JudgeJob}
 

@@ -11,7 +11,7 @@ use Rattle.std.specs.Result.{MatchResult, result_ok}
 use Rattle.sift_line.specs.Line.{HasVersion, IsLine, line_text}
 use Rattle.sift_line.specs.Texts.{texts_of}
 use Rattle.sift_line.specs.declared.line.ReportLine.{ReportLine}
-use Rattle.sift_line.specs.declared.version.Version.{Version}
+use Rattle.sift_line.specs.declared.line.Version.{Version}
 use Rattle.sift_judge_jobs.specs.Lines.{AreAllRead, BeginsRefused, IsFirstRefused, IsLineOf, IsNoLine}
 use Rattle.sift_judge_jobs.proofs.Readings.{head_same, more, tail_same}
 

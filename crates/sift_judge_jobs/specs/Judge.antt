@@ -4,15 +4,15 @@ use Rattle.std.specs.Fmt.{decimal}
 use Rattle.std.specs.List.{concat}
 use Rattle.sift_jobs.specs.Run.{version_of}
 use Rattle.sift_judge.specs.Verdict.{IsVerdict}
-use Rattle.sift_judge.specs.declared.verdict.Verdict.{Verdict}
-use Rattle.sift_judge.specs.declared.verdict.Verdict.TheVariants.{Yes, No}
+use Rattle.sift_judge.specs.declared.judging.Verdict.{Verdict}
+use Rattle.sift_judge.specs.declared.judging.Verdict.TheVariants.{Yes, No}
 use Rattle.sift_load.specs.Loads.{LoadsThen, no_mission_statuses}
 use Rattle.sift_mission.specs.Data.{MissionData}
 use Rattle.sift_options.specs.declared.setting.Options.{Options}
 use Rattle.sift_reply.specs.Duty.{Duty}
 use Rattle.sift_reply.specs.Reply.{Reply, done, done_status}
 use Rattle.sift_line.specs.declared.line.ReportLine.{ReportLine}
-use Rattle.sift_line.specs.declared.version.Version.{Version}
+use Rattle.sift_line.specs.declared.line.Version.{Version}
 use Rattle.sift_judge_jobs.specs.Divided.{AreDivided, AreUndivided}
 use Rattle.sift_judge_jobs.specs.Lines.{AreAllRead, IsFirstRefused}
 use Rattle.sift_judge_jobs.specs.declared.judge.JudgeJob.{JudgeJob}

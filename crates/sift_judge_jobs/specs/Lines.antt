@@ -4,7 +4,7 @@ use Rattle.std.specs.List.{All}
 use Rattle.sift_line.specs.Line.{HasVersion, IsLine, line_text}
 use Rattle.sift_line.specs.Texts.{texts_of}
 use Rattle.sift_line.specs.declared.line.ReportLine.{ReportLine}
-use Rattle.sift_line.specs.declared.version.Version.{Version}
+use Rattle.sift_line.specs.declared.line.Version.{Version}
 
 -- ---- a line
 

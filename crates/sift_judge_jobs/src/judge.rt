@@ -1,19 +1,24 @@
 //! The command `judge`.
 
 ghost use Rattle.std.specs.Prelude.{◌≡◌, IfOk};
-ghost use Rattle.sift_judge_jobs.specs.Judge.{ReportGives, judge_job_of, no_line, told};
+ghost use Rattle.sift_judge_jobs.specs.Judge.{ReportGives, judge_job_of, no_line, told, judge_duty, judge_statuses};
 ghost use Rattle.sift_mission.specs.Parts.{data_of};
+ghost use Rattle.sift_judge_jobs.specs.Judged.{RunsAreJudgedYes};
+ghost use Rattle.sift_judge_jobs.specs.declared.judge.JudgeJob.{JudgeJob as Judge};
+ghost use Rattle.sift_reply.specs.Duty.{GivesOne, HasOwnStatuses};
 
-use crate::divided::{Divided, divide};
-use crate::lines::read_lines;
+use crate::lines::{Divided, divide, read_lines};
 use sift_base::{NoMemory, Stop};
-use sift_jobs::version_of;
-use sift_judge::{Verdict, judge};
-use sift_load::{MissionJob, begin_for_bytes};
+use sift_jobs::{Flier, run_is_headlined, version_of};
+use sift_judge::{Verdict, judge, lines_have_one_verdict};
+use sift_load::{
+    MissionJob, begin_for_bytes, bytes_state_one_mission, loading_gives_one,
+    loading_has_own_statuses,
+};
 use sift_mission::Mission;
 use sift_options::Options;
-use sift_reply::{Begun, Job, Reply, Work};
-use sift_report::Version;
+use sift_reply::{Begun, Job, NoWork, Reply, Work};
+use sift_report::{Version, lines_come_apart, sheets_have_their_version};
 use std::alloc::Global;
 
 /// The most bytes of a document, the divider and a report.
@@ -109,4 +114,37 @@ fn no_line(alloc: Global, number: usize) -> Result<Reply, NoMemory>
     let mut line = String::new(alloc);
     write!(line, "report line {number}\n")?;
     Ok(Reply::made(12, line))
+}
+
+// ---- laws
+
+/// `judge` ends with 0, with 12 where a line is none of a report or none divides the input, with 13
+/// where the report isn't one that the mission may have, or with the status of bytes that state no
+/// mission.
+pub fn judge_has_own_statuses()
+    ensures { (job : Judge) → HasOwnStatuses (judge_duty job) judge_statuses }
+{
+    loading_has_own_statuses::<(), NoWork, ReportJob<'static>>();
+}
+
+/// `judge` gives one reply: an input is divided at one place, its report's lines are read or refused
+/// at one line, and lines have one verdict.
+pub fn judge_gives_one()
+    ensures { (job : Judge) → GivesOne (judge_duty job) }
+{
+    loading_gives_one::<(), NoWork, ReportJob<'static>>();
+    lines_have_one_verdict();
+}
+
+/// The report that `run` gives to a document is judged yes behind that document and the line that
+/// divides, in the same version: the lines that are read from it are those of the flight's sheet,
+/// which have the headline.
+pub fn runs_are_judged_yes<F: Flier>()
+    ensures { (flier : F) → RunsAreJudgedYes (F.gives flier) }
+{
+    run_is_headlined::<F>();
+    sheets_have_their_version();
+    lines_come_apart();
+    bytes_state_one_mission();
+    lines_have_one_verdict();
 }

@@ -2,11 +2,7 @@
 //! its replies.
 #![tactic(auto)]
 
-mod divided;
 mod judge;
-mod law;
-mod line;
 mod lines;
 
-pub use judge::JudgeJob;
-pub use law::{judge_gives_one, judge_has_own_statuses, runs_are_judged_yes};
+pub use judge::{JudgeJob, judge_gives_one, judge_has_own_statuses, runs_are_judged_yes};

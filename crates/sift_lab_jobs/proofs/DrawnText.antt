@@ -7,7 +7,7 @@ use Rattle.sift_clocklab.specs.Draws.{AllowsDrawn, drawn_face, drawn_lab}
 use Rattle.sift_clocklab.specs.Laboratory.{Laboratory, Run}
 use Rattle.sift_clocklab.specs.Showing.{Runs}
 use Rattle.sift_clocklab.specs.Text.{IsTextOf}
-use Rattle.sift_clocklab.specs.declared.drawing.Drawn.{Drawn}
+use Rattle.sift_clocklab.specs.declared.lab.Drawn.{Drawn}
 use Rattle.sift_reply.specs.Reply.{Reply, done}
 use Rattle.sift_lab_jobs.specs.Clocks.{ClocksGives, LabNumbers, lab_of, run_of}
 

@@ -12,7 +12,7 @@ use Rattle.sift_reply.specs.Duty.{GivesOne}
 use Rattle.sift_reply.specs.Reply.{Reply, done}
 use Rattle.sift_lab_jobs.specs.Byz.{ByzGivesFor, broken_rule, byz_duty}
 use Rattle.sift_lab_jobs.specs.Clocks.{LabNumbers, clocks_duty, lab_of, run_of}
-use Rattle.sift_lab_jobs.specs.declared.byz.ByzJob.{ByzJob}
+use Rattle.sift_lab_jobs.specs.declared.labs.ByzJob.{ByzJob}
 
 -- ---- `byz`
 

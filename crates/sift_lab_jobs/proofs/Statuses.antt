@@ -4,7 +4,7 @@ use Rattle.sift_reply.specs.Duty.{HasOwnStatuses}
 use Rattle.sift_reply.specs.Reply.{Reply, shared_statuses}
 use Rattle.sift_lab_jobs.specs.Byz.{ByzGives, byz_duty, byz_statuses}
 use Rattle.sift_lab_jobs.specs.Clocks.{ClocksGives, LabNumbers, clocks_duty, clocks_statuses}
-use Rattle.sift_lab_jobs.specs.declared.byz.ByzJob.{ByzJob}
+use Rattle.sift_lab_jobs.specs.declared.labs.ByzJob.{ByzJob}
 
 -- a reply has one of these statuses, and no shared one
 abbrev IsOwn : (statuses : List ℕ) → Reply → Type 0

@@ -3,15 +3,15 @@ use Rattle.std.specs.Prelude.{codes, ℕ, ◌≡◌, ◌⊎◌, List, [], ◌∷
 use Rattle.std.specs.Fmt.{decimal}
 use Rattle.std.specs.List.{concat}
 use Rattle.toml.specs.Data.{Members}
-use Rattle.sift_document.specs.declared.rule.BrokenRule.{BrokenRule}
+use Rattle.sift_document.specs.declared.entries.BrokenRule.{BrokenRule}
 use Rattle.sift_byz.specs.Lawful.{IsPlanOf, IsRefusedWith}
 use Rattle.sift_byz.specs.Plan.{PlanData}
 use Rattle.sift_byz.specs.Text.{text_of}
 use Rattle.sift_load.specs.Loads.{document_limit, IsDocument, StatesNone, reply_to}
-use Rattle.sift_load.specs.declared.no_mission.NoMission.TheVariants.{NotADocument}
+use Rattle.sift_load.specs.declared.loading.NoMission.TheVariants.{NotADocument}
 use Rattle.sift_reply.specs.Duty.{Duty}
 use Rattle.sift_reply.specs.Reply.{Reply, done, done_status}
-use Rattle.sift_lab_jobs.specs.declared.byz.ByzJob.{ByzJob}
+use Rattle.sift_lab_jobs.specs.declared.labs.ByzJob.{ByzJob}
 
 -- the reply to a document that breaks this rule first
 abbrev pub broken_rule : BrokenRule → Reply

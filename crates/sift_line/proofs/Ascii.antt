@@ -16,8 +16,8 @@ use Rattle.sift_exec.specs.declared.catches.Kinds.{Kinds}
 use Rattle.sift_exec.specs.declared.catches.Catches.{Catches}
 use Rattle.sift_exec.specs.Conviction.{everyone_in, kinds_of}
 use Rattle.sift_line.specs.Bad.{caught_text, kinds_text}
-use Rattle.sift_line.specs.declared.bad.Bad.{Bad}
-use Rattle.sift_line.specs.declared.bad.Bad.TheVariants.{Plain, ByKind}
+use Rattle.sift_line.specs.declared.catch.Bad.{Bad}
+use Rattle.sift_line.specs.declared.catch.Bad.TheVariants.{Plain, ByKind}
 use Rattle.sift_line.specs.Line.{IsLine, fields_of, line_text}
 use Rattle.sift_line.specs.Part.{list_text, margin_text, text_or_dash, unit_digit, units_text, word_text, words_text}
 use Rattle.sift_line.specs.declared.line.ReportLine.{ReportLine}

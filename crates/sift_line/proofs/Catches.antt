@@ -24,7 +24,7 @@ use Rattle.sift_exec.specs.declared.catches.Kinds.{Kinds}
 use Rattle.sift_exec.specs.laws.Everyone.{holds-everyone}
 use Rattle.sift_line.specs.Bad.{AreTold, IsCatch, IsSomeKind, IsToldBy, catch_of, catches_in, IsBad, catch_text, caught_text}
 use Rattle.sift_line.specs.declared.catch.Catch.{Catch}
-use Rattle.sift_line.specs.declared.bad.Bad.TheVariants.{ByKind}
+use Rattle.sift_line.specs.declared.catch.Bad.TheVariants.{ByKind}
 use Rattle.sift_line.specs.Part.{list_text}
 
 -- ---- everyone who was caught

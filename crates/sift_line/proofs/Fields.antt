@@ -11,8 +11,8 @@ use Rattle.sift_line.specs.declared.line.ReportLine.TheVariants.{Unit as unit, F
 use Rattle.sift_line.specs.Part.{AreAbove, IsAbove, list_text, margin_text, text_or_dash, unit_digit, units_text, word_text, words_text}
 use Rattle.sift_line.specs.Bad.{catch_text, catches_in, caught_text}
 use Rattle.sift_line.specs.Apart.{catch_above}
-use Rattle.sift_line.specs.declared.bad.Bad.{Bad}
-use Rattle.sift_line.specs.declared.bad.Bad.TheVariants.{Plain, ByKind}
+use Rattle.sift_line.specs.declared.catch.Bad.{Bad}
+use Rattle.sift_line.specs.declared.catch.Bad.TheVariants.{Plain, ByKind}
 use Rattle.sift_line.specs.declared.catch.Catch.{Catch}
 use Rattle.sift_line.specs.Line.{IsLine, fields_of, line_text}
 use Rattle.sift_line.proofs.Above.{above-decimal, above-signed, above-join, above-lower, above-map, above-word}

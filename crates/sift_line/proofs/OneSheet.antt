@@ -17,12 +17,12 @@ use Rattle.sift_line.specs.Line.{HasVersion, IsLine, fields_of, line_text}
 use Rattle.sift_line.specs.OneSheet.{OneLineOfAText, OneSheetOfAText}
 use Rattle.sift_line.specs.Part.{IsAbove, list_text, margin_text, text_or_dash, unit_digit, units_text, word_text, words_text}
 use Rattle.sift_line.specs.Texts.{texts_of}
-use Rattle.sift_line.specs.declared.bad.Bad.{Bad}
-use Rattle.sift_line.specs.declared.bad.Bad.TheVariants.{Plain, ByKind}
+use Rattle.sift_line.specs.declared.catch.Bad.{Bad}
+use Rattle.sift_line.specs.declared.catch.Bad.TheVariants.{Plain, ByKind}
 use Rattle.sift_line.specs.declared.catch.Catch.{Catch}
 use Rattle.sift_line.specs.declared.line.ReportLine.{ReportLine}
 use Rattle.sift_line.specs.declared.line.ReportLine.TheVariants.{Unit as unit, Faulty, Idle, Frame, Last}
-use Rattle.sift_line.specs.declared.version.Version.{Version}
+use Rattle.sift_line.specs.declared.line.Version.{Version}
 use Rattle.sift_line.proofs.Above.{above-map, all-lower}
 use Rattle.sift_line.proofs.Ascending.{no_units}
 use Rattle.sift_line.proofs.Catches.{list_tells, one_told, catches_are}

@@ -11,11 +11,11 @@ use Rattle.sift_line.specs.Bad.{IsBad, IsSomeKind, caught_text, kinds_text, unit
 use Rattle.sift_line.specs.Line.{HasVersion, IsLine, fields_of, line_text}
 use Rattle.sift_line.specs.Part.{AscendFrom, list_text, unit_digit, units_text}
 use Rattle.sift_line.specs.Versions.{LinesTellTheirVersion, NamesNobody}
-use Rattle.sift_line.specs.declared.bad.Bad.{Bad}
-use Rattle.sift_line.specs.declared.bad.Bad.TheVariants.{Plain, ByKind}
+use Rattle.sift_line.specs.declared.catch.Bad.{Bad}
+use Rattle.sift_line.specs.declared.catch.Bad.TheVariants.{Plain, ByKind}
 use Rattle.sift_line.specs.declared.line.ReportLine.{ReportLine}
 use Rattle.sift_line.specs.declared.line.ReportLine.TheVariants.{Unit as unit, Faulty, Idle, Frame, Last}
-use Rattle.sift_line.specs.declared.version.Version.TheVariants.{One, Two}
+use Rattle.sift_line.specs.declared.line.Version.TheVariants.{One, Two}
 use Rattle.sift_line.proofs.Catches.{everyone_units, in_members, some_kind}
 use Rattle.sift_line.proofs.Fields.{fields_of_text}
 use Rattle.sift_line.proofs.Results.{not_both}

@@ -8,11 +8,11 @@ use Rattle.sift_exec.specs.declared.catches.Kind.{Kind}
 use Rattle.sift_exec.specs.declared.catches.Kind.TheVariants.{Poll, Relay, Clock}
 use Rattle.sift_exec.specs.declared.catches.Kinds.{Kinds}
 use Rattle.sift_line.specs.Part.{list_text, unit_digit, units_text}
-use Rattle.sift_line.specs.declared.bad.Bad.{Bad}
-use Rattle.sift_line.specs.declared.bad.Bad.TheVariants.{Plain, ByKind}
+use Rattle.sift_line.specs.declared.catch.Bad.{Bad}
+use Rattle.sift_line.specs.declared.catch.Bad.TheVariants.{Plain, ByKind}
 use Rattle.sift_line.specs.declared.catch.Catch.{Catch}
-use Rattle.sift_line.specs.declared.version.Version.{Version}
-use Rattle.sift_line.specs.declared.version.Version.TheVariants.{One, Two}
+use Rattle.sift_line.specs.declared.line.Version.{Version}
+use Rattle.sift_line.specs.declared.line.Version.TheVariants.{One, Two}
 
 -- ---- texts
 

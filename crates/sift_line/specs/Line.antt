@@ -9,7 +9,7 @@ use Rattle.sift_base.specs.Units.{unit_limit}
 use Rattle.sift_config.specs.Config.{IsConfig}
 use Rattle.sift_line.specs.Bad.{IsBad, caught_text, version_of}
 use Rattle.sift_line.specs.Part.{blank, unit_digit, units_text, words_text, text_or_dash, margin_text}
-use Rattle.sift_line.specs.declared.version.Version.{Version}
+use Rattle.sift_line.specs.declared.line.Version.{Version}
 use Rattle.sift_line.specs.declared.line.ReportLine.{ReportLine}
 use Rattle.sift_line.specs.declared.line.ReportLine.TheVariants.{Unit as unit, Faulty, Idle, Frame, Last}
 

@@ -3,7 +3,7 @@ use Rattle.std.specs.Prelude.{◌≡◌, List}
 use Rattle.std.specs.List.{All}
 use Rattle.sift_line.specs.Line.{HasVersion, IsLine, line_text, text_of_lines}
 use Rattle.sift_line.specs.declared.line.ReportLine.{ReportLine}
-use Rattle.sift_line.specs.declared.version.Version.{Version}
+use Rattle.sift_line.specs.declared.line.Version.{Version}
 
 -- two lines of one version with one text are one line
 abbrev pub OneLineOfAText : Type 0

@@ -5,7 +5,7 @@ use Rattle.sift_line.specs.Bad.{units_in}
 use Rattle.sift_line.specs.Line.{HasVersion, IsLine, line_text}
 use Rattle.sift_line.specs.declared.line.ReportLine.{ReportLine}
 use Rattle.sift_line.specs.declared.line.ReportLine.TheVariants.{Unit as unit, Faulty, Idle, Frame, Last}
-use Rattle.sift_line.specs.declared.version.Version.TheVariants.{One, Two}
+use Rattle.sift_line.specs.declared.line.Version.TheVariants.{One, Two}
 
 -- the line names no unit that was caught
 abbrev pub NamesNobody : ReportLine → Type 0

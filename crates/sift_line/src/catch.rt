@@ -1,19 +1,22 @@
-//! Catches by their ways, read just as they are printed.
+//! Catches, read just as they are printed: by their ways, and as the units that a line names.
 
 ghost use Rattle.std.specs.Prelude.{◌≡◌, ◌++◌, ◌↔◌, IfSome, IsTrue, OnOk, Some, string_bytes};
 ghost use Rattle.sift_exec.specs.declared.catches.Kinds.{Kinds as TheKinds};
 ghost use Rattle.sift_line.specs.Apart.{catch_above};
-ghost use Rattle.sift_line.specs.Bad.{AreTold, IsBad, IsCatch, IsSomeKind, IsToldBy, catch_text, catches_in, caught_text, kinds_text};
-ghost use Rattle.sift_line.specs.declared.bad.Bad.TheVariants.{ByKind};
+ghost use Rattle.sift_line.specs.Bad.{AreTold, IsBad, IsCatch, IsSomeKind, IsToldBy, catch_text, catches_in, caught_text, kinds_text, bad_in, units_in, version_of};
+ghost use Rattle.sift_line.specs.declared.catch.Bad.TheVariants.{ByKind};
+ghost use Rattle.sift_line.specs.declared.catch.Bad.{Bad as Told};
 
-use crate::list::{Item, read_list};
-use crate::part::{ListPart, Part};
+use crate::line::Version;
+use crate::number::{Item, read_digit, read_list};
+use crate::part::{ListPart, Part, field};
 use crate::print::{members_of, push_unit};
-use crate::units::read_digit;
 use arrayvec::ArrayVec;
 use sift_base::{UnitId, UnitSet};
 use sift_exec::{Catches, Kind, Kinds};
 use std::alloc::AllocError;
+
+// ---- catches by their ways
 
 /// A unit that was caught, and the ways in which.
 #[derive(Clone, Copy, Default, PartialEq, Eq)]
@@ -132,4 +135,50 @@ fn units_by(list: &[Catch], kind: Kind) -> UnitSet
         }
     }
     units
+}
+
+// ---- the units that were caught
+
+/// The units that a unit caught, as a line tells them.
+#[derive(Clone, Copy)]
+pub enum Bad {
+    /// In version 1: the units.
+    Plain(UnitSet),
+    /// In version 2: the units, by the ways in which they were caught.
+    ByKind(Catches),
+}
+
+impl Bad {
+    /// What a report of this version tells of catches: version 1 forgets the ways.
+    pub fn of(version: Version, caught: Catches) -> Bad
+        ensures { result ≡ bad_in version caught }
+    {
+        match version {
+            Version::One => Bad::Plain(caught.everyone()),
+            Version::Two => Bad::ByKind(caught),
+        }
+    }
+
+    /// The units, in whatever way they were caught.
+    pub fn units(&self) -> UnitSet
+        ensures { result ≡ units_in self.now }
+    {
+        match self {
+            Bad::Plain(units) => *units,
+            Bad::ByKind(caught) => caught.everyone(),
+        }
+    }
+}
+
+/// The caught units behind a label in a report of this version, where there are some.
+pub fn bad_field(text: &str, label: &str, version: Version) -> Option<Bad>
+    ensures part { IfSome result IsBad }
+    ensures version { IfSome result (λ bad. version_of bad ≡ version) }
+    ensures printed { IfSome result (λ bad. label.now ++ caught_text bad ≡ text.now) }
+    ensures exact { (bad : Told) → IsBad bad → version_of bad ≡ version → label.now ++ caught_text bad ≡ text.now → result ≡ Some bad }
+{
+    match version {
+        Version::One => Some(Bad::Plain(field(text, label)?)),
+        Version::Two => Some(Bad::ByKind(field(text, label)?)),
+    }
 }

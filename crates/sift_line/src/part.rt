@@ -10,11 +10,10 @@ ghost use Rattle.sift_config.specs.Config.{IsConfig};
 ghost use Rattle.sift_line.specs.Apart.{word_above};
 ghost use Rattle.sift_line.specs.Part.{IsAbove, dash, list_text, margin_text, text_or_dash, unit_digit, units_text, word_text};
 
-use crate::list::read_list;
-use crate::number::{read_number, read_signed};
-use crate::units::{read_config, read_set, read_unit};
-use crate::value::{labelled, read_margin, read_ticks};
-use crate::word::read_word;
+use crate::number::{
+    labelled, read_config, read_list, read_margin, read_number, read_set, read_signed, read_ticks,
+    read_unit, read_word,
+};
 use arrayvec::ArrayVec;
 use sift_base::{UnitId, UnitSet, Word};
 use sift_config::Config;

@@ -8,10 +8,9 @@ ghost use Rattle.sift_line.specs.Line.{line_text, printed};
 ghost use Rattle.sift_line.specs.declared.line.ReportLine.TheVariants.{Unit, Frame, Last};
 ghost use Rattle.sift_line.specs.Part.{margin_text, text_or_dash, unit_digit, units_text, word_text, words_text};
 
-use crate::bad::Bad;
-use crate::catch::catches_in;
+use crate::catch::{Bad, catches_in};
 use crate::line::ReportLine;
-use crate::list::{Item, push_list};
+use crate::number::{Item, push_list};
 use arrayvec::ArrayVec;
 use sift_base::{UnitId, UnitSet, Word};
 use sift_config::Config;

@@ -7,11 +7,11 @@ use Rattle.sift_reply.specs.Reply.{Reply, shared_statuses}
 use Rattle.sift_scenario.specs.Laws.{MissionsAreAccepted, OneMission, OneRefusal}
 use Rattle.sift_scenario.specs.Mission.{IsMission}
 use Rattle.sift_scenario.specs.Refusal.{IsRefusedWith}
-use Rattle.sift_scenario.specs.declared.refused.Refused.TheVariants.{Scenario, Task, Table, Script}
+use Rattle.sift_scenario.specs.declared.mission.Refused.TheVariants.{Scenario, Task, Table, Script}
 use Rattle.sift_load.specs.Laws.{OneMissionIsStated, OneReplyIsGiven, StatedMissionsAreUnrefused, StatusesAreOwn}
 use Rattle.sift_load.specs.Loads.{LoadsThen, IsDocument, StatesNone, no_mission_statuses, reply_to}
-use Rattle.sift_load.specs.declared.no_mission.NoMission.{NoMission}
-use Rattle.sift_load.specs.declared.no_mission.NoMission.TheVariants.{NotADocument, Refused}
+use Rattle.sift_load.specs.declared.loading.NoMission.{NoMission}
+use Rattle.sift_load.specs.declared.loading.NoMission.TheVariants.{NotADocument, Refused}
 
 -- a document has one tree
 one_tree : (bytes : List ℕ) (one other : Members) → IsDocument bytes one → IsDocument bytes other → one ≡ other

@@ -4,7 +4,7 @@ use Rattle.sift_mission.specs.Data.{MissionData}
 use Rattle.sift_reply.specs.Duty.{GivesOneTo, HasOwnStatuses}
 use Rattle.sift_reply.specs.Reply.{Reply, shared_statuses}
 use Rattle.sift_load.specs.Loads.{mission_duty, States, StatesNone, no_mission_statuses}
-use Rattle.sift_load.specs.declared.no_mission.NoMission.{NoMission}
+use Rattle.sift_load.specs.declared.loading.NoMission.{NoMission}
 
 -- bytes state at most one mission
 abbrev pub OneMissionIsStated : Type 0

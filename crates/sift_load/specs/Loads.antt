@@ -8,10 +8,10 @@ use Rattle.sift_mission.specs.Data.{MissionData}
 use Rattle.sift_scenario.specs.Mission.{IsMission}
 use Rattle.sift_scenario.specs.Refusal.{IsRefusedWith}
 use Rattle.sift_reply.specs.Reply.{Reply}
-use Rattle.sift_scenario.specs.declared.refused.Refused.TheVariants.{Scenario, Task, Table, Script}
+use Rattle.sift_scenario.specs.declared.mission.Refused.TheVariants.{Scenario, Task, Table, Script}
 use Rattle.sift_reply.specs.Duty.{Duty}
-use Rattle.sift_load.specs.declared.no_mission.NoMission.{NoMission}
-use Rattle.sift_load.specs.declared.no_mission.NoMission.TheVariants.{NotADocument, Refused}
+use Rattle.sift_load.specs.declared.loading.NoMission.{NoMission}
+use Rattle.sift_load.specs.declared.loading.NoMission.TheVariants.{NotADocument, Refused}
 
 -- ---- the mission that the bytes of an input state, or why they state none
 

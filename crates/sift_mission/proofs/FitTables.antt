@@ -6,8 +6,8 @@ use Rattle.std.proofs.lemmas.List.{get_or_default}
 use Rattle.sift_base.specs.Layout.{least_units}
 use Rattle.sift_base.specs.Requirement.{AreMet}
 use Rattle.sift_base.specs.Shapes.{words_in}
-use Rattle.sift_base.specs.declared.slot.Slot.{Slot}
-use Rattle.sift_base.specs.declared.slot.Slot.TheVariants.{Clock, Sense, RelaySense, Out, Report, RelayReport}
+use Rattle.sift_base.specs.declared.slots.Slot.{Slot}
+use Rattle.sift_base.specs.declared.slots.Slot.TheVariants.{Clock, Sense, RelaySense, Out, Report, RelayReport}
 use Rattle.sift_base.specs.Units.{has}
 use Rattle.sift_base.specs.laws.Ranges.{range-has}
 use Rattle.sift_table.specs.Laws.{SlotsAreHeardInTime, TasksHaveThreeExecutors}

@@ -1,14 +1,14 @@
 -- What a mission's list of the words' tasks says.
 use Rattle.std.proofs.Common.{◌≡◌, ℕ, ◌<◌, List, length, slice_index, true, ap, ◌∙◌, subst, arith, zero-add, ltb-true}
 use Rattle.sift_base.specs.Layout.{slot_count, slot_kind}
-use Rattle.sift_base.specs.declared.slot.Slot.TheVariants.{Out}
+use Rattle.sift_base.specs.declared.slots.Slot.TheVariants.{Out}
 use Rattle.sift_mission.specs.ByWord.{IsHeld, by_word}
 use Rattle.sift_mission.specs.Data.{MissionData}
 use Rattle.sift_mission.specs.Parts.{data_of, flown_of}
 use Rattle.sift_mission.specs.Flown.{flown}
 use Rattle.sift_mission.specs.PartsFit.{PartsFit}
 use Rattle.sift_mission.specs.Slots.{is_slot}
-use Rattle.sift_mission.specs.declared.parts.MissionParts.{MissionParts}
+use Rattle.sift_mission.specs.declared.mission.MissionParts.{MissionParts}
 use Rattle.sift_mission.specs.declared.crews.Crews.{Crews}
 use Rattle.sift_mission.specs.declared.timetable.Timetable.{Timetable}
 use Rattle.sift_mission.specs.laws.ByWords.{at-by_word, length-by_word}

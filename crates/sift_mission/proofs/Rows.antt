@@ -9,7 +9,7 @@ use Rattle.sift_config.specs.Config.{first_units}
 use Rattle.sift_mission.specs.Data.{MissionData}
 use Rattle.sift_mission.specs.Parts.{data_of}
 use Rattle.sift_mission.specs.PartsFit.{HasWords, PartsFit}
-use Rattle.sift_mission.specs.declared.parts.MissionParts.{MissionParts}
+use Rattle.sift_mission.specs.declared.mission.MissionParts.{MissionParts}
 use Rattle.sift_mission.specs.laws.ByWords.{get_or-map_default}
 
 module _ (d : MissionData) (fit : PartsFit d) (u : ℕ) (there : has (first_units d.units) u ≡ true) where

@@ -9,7 +9,7 @@ use Rattle.sift_mission.specs.PartsFit.{PartsFit}
 use Rattle.sift_mission.specs.Timetable.{AreTimetables}
 use Rattle.sift_mission.specs.declared.crews.Crews.{Crews}
 use Rattle.sift_mission.specs.declared.timetable.Timetable.{Timetable}
-use Rattle.sift_mission.specs.declared.parts.MissionParts.{MissionParts}
+use Rattle.sift_mission.specs.declared.mission.MissionParts.{MissionParts}
 
 -- the task of each word of these tasks, the first of which has this number
 abbrev pub by_word : ℕ → List TaskTree → List ℕ

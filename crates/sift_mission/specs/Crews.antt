@@ -2,15 +2,15 @@
 use Rattle.std.specs.Prelude.{◌≡◌, ℕ, ◌-◌, ◌<◌, ◌&&◌, Bool, true, not, nat_eq, List, length, slice_index_or}
 use Rattle.sift_base.specs.Units.{Units, has, holds, members, units_of}
 use Rattle.sift_base.specs.Layout.{least_units, slot_count, slot_kind}
-use Rattle.sift_base.specs.declared.layout.Layout.{Layout}
-use Rattle.sift_base.specs.declared.slot.Slot.{Slot}
-use Rattle.sift_base.specs.declared.slot.Slot.TheVariants.{RelayReport}
+use Rattle.sift_base.specs.declared.slots.Layout.{Layout}
+use Rattle.sift_base.specs.declared.slots.Slot.{Slot}
+use Rattle.sift_base.specs.declared.slots.Slot.TheVariants.{RelayReport}
 use Rattle.sift_table.specs.Schedule.{Schedule, positions_of}
 use Rattle.sift_mission.specs.Data.{IsConfigOf, FlownMission, MissionData}
 use Rattle.sift_mission.specs.Flown.{flown, position_in, table_for}
 use Rattle.sift_mission.specs.Slots.{is_senders}
 use Rattle.sift_mission.specs.declared.crews.Crews.{Crews}
-use Rattle.sift_mission.specs.declared.roles.Roles.{Roles}
+use Rattle.sift_mission.specs.declared.crews.Roles.{Roles}
 
 -- the units of a configuration that run a task by a table: those at the task's positions
 abbrev pub IsCrewBy : Schedule → List ℕ → ℕ → Units → Type 0

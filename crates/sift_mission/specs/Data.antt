@@ -1,13 +1,13 @@
 -- A mission: the data that a document states, and the record that flights see. What else holds of it stands apart, in premises of their own.
 use Rattle.std.specs.Prelude.{ℕ, List, ℤ, ◌≡◌, ◌≤◌, length, Bool, true, Option}
 use Rattle.sift_base.specs.Shapes.{AllShapes}
-use Rattle.sift_base.specs.declared.layout.Layout.{Layout}
+use Rattle.sift_base.specs.declared.slots.Layout.{Layout}
 use Rattle.sift_program.specs.Program.{ProgramTree, program_shapes}
 use Rattle.sift_script.specs.Script.{FaultScript}
 use Rattle.sift_table.specs.Schedule.{Schedule}
 use Rattle.sift_base.specs.Layout.{least_units}
 use Rattle.sift_base.specs.Units.{has, IsAscending}
-use Rattle.sift_base.specs.declared.slot.Slot.{Slot}
+use Rattle.sift_base.specs.declared.slots.Slot.{Slot}
 
 -- ---- what a document states, as numbers and lists
 

@@ -2,10 +2,10 @@
 use Rattle.std.specs.Prelude.{map}
 use Rattle.sift_compile.specs.Tasks.{AreCodesOf}
 use Rattle.sift_program.specs.Program.{program_of}
-use Rattle.sift_skew.specs.declared.plan.ClockPlan.{ClockPlan}
+use Rattle.sift_skew.specs.declared.clocks.ClockPlan.{ClockPlan}
 use Rattle.sift_mission.specs.Data.{Clocks, MissionData, FlownMission}
 use Rattle.sift_mission.specs.Flown.{flown}
-use Rattle.sift_mission.specs.declared.parts.MissionParts.{MissionParts}
+use Rattle.sift_mission.specs.declared.mission.MissionParts.{MissionParts}
 
 -- the clocks that a plan stands for
 abbrev pub clocks_of : ClockPlan → Clocks

@@ -1,7 +1,7 @@
 -- What the loader, the script of faults and the clocks give of a mission, beside tables and layout.
 use Rattle.std.specs.Prelude.{◌≡◌, ℕ, ◌+◌, ◌<◌, ◌≤◌, List, slice_get, slice_index, true, false, Some, None, pos, ◌+ℤ◌, ◌≤ℤ◌}
 use Rattle.sift_base.specs.Units.{has}
-use Rattle.sift_base.specs.declared.slot.Slot.{Slot}
+use Rattle.sift_base.specs.declared.slots.Slot.{Slot}
 use Rattle.sift_clock.specs.Distance.{IsWithin}
 use Rattle.sift_lang.specs.Meaning.{meaning}
 use Rattle.sift_lang.specs.Tree.{TaskTree}

@@ -1,7 +1,7 @@
 -- The places of a frame, in the order in which a unit comes to them, and its stops: where a slot is heard, where a task is run, and where a slot
 -- is said.
 use Rattle.std.specs.Prelude.{◌≡◌, ℕ, ◌+◌, ◌*◌, ◌<◌, ◌≤◌, List, true}
-use Rattle.sift_base.specs.declared.slot.Slot.{Slot}
+use Rattle.sift_base.specs.declared.slots.Slot.{Slot}
 use Rattle.sift_mission.specs.Data.{FlownMission}
 use Rattle.sift_mission.specs.Slots.{is_slot}
 use Rattle.sift_mission.specs.declared.schedule.Part.{Part}

@@ -1,21 +1,15 @@
 //! Missions: what a loader makes of a document, and what units, tasks, slots, faults and clocks it gives a flight.
 #![tactic(auto)]
 
-mod clocks;
 mod crews;
-mod faults;
 mod laws;
 mod mission;
-mod parts;
-mod roles;
 mod schedule;
 mod timetable;
-mod words;
 
 pub use laws::{
     a_mission_fits, a_mission_flies, a_unit_says_nothing_to_itself, fitting_parts_make_a_flight,
     fitting_parts_make_a_mission,
 };
-pub use mission::Mission;
-pub use parts::MissionParts;
+pub use mission::{Mission, MissionParts};
 pub use schedule::Part;

@@ -1,25 +1,66 @@
-//! A mission, whose parts fit.
+//! A mission, whose parts fit, and what boards ask of it: words, faults and clocks.
 
-ghost use Rattle.std.specs.Prelude.{◌≡◌, ℕ, ◌+◌, ◌-◌, ◌<◌, ◌≤◌, ◌++◌, length, map, replicate};
+ghost use Rattle.std.specs.Prelude.{◌≡◌, ℕ, ◌+◌, ◌-◌, ◌<◌, ◌≤◌, ◌++◌, length, map, replicate, pos, ◌+ℤ◌, true};
 ghost use Rattle.sift_base.specs.Shapes.{task_limit};
 ghost use Rattle.sift_lang.specs.Tree.{tree_of};
-ghost use Rattle.sift_program.specs.Program.{output_count};
+ghost use Rattle.sift_program.specs.Program.{output_count, first_word, task_at};
 ghost use Rattle.sift_mission.specs.ByWord.{by_word};
 ghost use Rattle.sift_mission.specs.Crews.{AreCrewsOf};
 ghost use Rattle.sift_mission.specs.Parts.{AreCompiled, data_of, flown_of};
 ghost use Rattle.sift_mission.specs.Data.{IsConfigOf};
-ghost use Rattle.sift_mission.specs.Flown.{runs_in};
-ghost use Rattle.sift_base.specs.Units.{holds};
+ghost use Rattle.sift_mission.specs.Flown.{runs_in, ticks_of};
+ghost use Rattle.sift_base.specs.Units.{holds, has};
 ghost use Rattle.sift_mission.specs.PartsFit.{PartsFit};
+ghost use Rattle.sift_base.specs.Layout.{word_limit};
+ghost use Rattle.sift_compile.specs.Tasks.{IsCodeOf};
+ghost use Rattle.sift_clock.specs.Distance.{IsWithin, error_limit};
 
 use crate::crews::{Crews, all_crews};
-use crate::parts::MissionParts;
 use crate::timetable::{Timetable, timetables};
 use arrayvec::ArrayVec;
-use sift_base::UnitSet;
+use sift_base::{Layout, Name, UnitId, UnitSet, Word};
+use sift_code::Checked;
 use sift_config::Config;
 use sift_lang::Task;
+use sift_program::Program;
+use sift_script::{GoodScript, working_units_say_their_words};
+use sift_skew::ClockPlan;
+use sift_table::GoodTable;
 use std::marker::Model;
+
+// ---- the parts
+
+/// The parts of a mission, as a loader has them.
+#[derive(Drop)]
+pub struct MissionParts {
+    /// How many units fly, 4 to 8.
+    pub units: u8,
+    /// How many frames are flown, 1 to 1,000.
+    pub frames: u32,
+    /// How many subframes a frame has, 12 to 64.
+    pub period: u8,
+    /// How many units, sensors and output words there are.
+    pub layout: Layout,
+    /// The name of each task.
+    pub names: Vec<Name>,
+    /// The tasks, and the words that stand for theirs before frame 0.
+    pub program: Program,
+    /// The code of each task.
+    pub code: Vec<Checked>,
+    /// The table for the configurations of each size, from four units on.
+    pub tables: Vec<GoodTable>,
+    /// The words of each sensor, 1 to 1,000, which come round and round.
+    pub sensors: Vec<Vec<Word>>,
+    /// The clocks.
+    pub clock: ClockPlan,
+    /// Which units fail, and how.
+    pub script: GoodScript,
+}
+
+/// The most slots of a mission.
+pub(crate) const SLOT_LIMIT: usize = 90;
+
+// ---- the mission
 
 /// A mission. A clause sees it as its parts, and they fit.
 #[derive(Drop)]
@@ -36,8 +77,8 @@ pub struct Mission {
 }
 
 impl Model for Mission {
-    ghost use Rattle.sift_mission.specs.contracts.parts.MissionParts.{the_row};
-    ghost use Rattle.sift_mission.specs.declared.parts.MissionParts.{MissionParts};
+    ghost use Rattle.sift_mission.specs.contracts.mission.MissionParts.{the_row};
+    ghost use Rattle.sift_mission.specs.declared.mission.MissionParts.{MissionParts};
     ghost use Rattle.sift_mission.specs.ByWord.{IsHeld};
 
     ghost Value = { MissionParts };
@@ -76,15 +117,6 @@ impl Mission {
         ensures compiled { AreCompiled self.now }
     {
         &self.parts
-    }
-
-    /// The parts back, to make another mission of some of them. They fit.
-    pub fn into_parts(self) -> MissionParts
-        ensures same { result ≡ self }
-        ensures fit { PartsFit (data_of result) }
-        ensures compiled { AreCompiled result }
-    {
-        self.parts
     }
 
     /// How many slots there are, at most 90.
@@ -144,4 +176,124 @@ fn push_copies(list: &mut ArrayVec<u8, 64>, number: u8, count: u8)
     for _ in 0..count {
         list.push(number);
     }
+}
+
+// ---- its words
+
+impl Mission {
+    /// The word of a sensor in a frame: its words come round and round.
+    pub fn sensed(&self, x: u8, f: u32) -> Word
+        requires sensor { x < (flown_of self.now).sensors }
+        requires frame { f < (flown_of self.now).frames }
+        ensures { result ≡ (flown_of self.now).sensed x f }
+    {
+        let words = &self.parts().sensors[usize::from(x)];
+        words[f as usize % words.len()]
+    }
+
+    /// The words that stand for the tasks' words before frame 0.
+    pub fn starts(&self) -> &[Word]
+        ensures words { result.now ≡ (flown_of self.now).starts }
+        ensures few { length result.now ≤ word_limit }
+    {
+        &self.parts().program.starts
+    }
+
+    /// The code of a task.
+    pub fn code(&self, t: usize) -> &Checked
+        requires { t < (flown_of self.now).tasks }
+        ensures { IsCodeOf (flown_of self.now).sensors (flown_of self.now).words (task_at (data_of self.now).program.tasks t) result.now }
+    {
+        &self.parts().code[t]
+    }
+
+    /// The number of a task's first word: so many words have the tasks before it.
+    pub fn first_word(&self, t: usize) -> usize
+        requires { t < (flown_of self.now).tasks }
+        ensures { result ≡ first_word (data_of self.now).program.tasks t }
+    {
+        let mut first = 0;
+        for task in &self.parts().program.tasks[..t] {
+            first += usize::from(task.outputs);
+        }
+        first
+    }
+
+    /// How many words a task puts out, 1 to 8.
+    pub fn outputs(&self, t: usize) -> u8
+        requires { t < (flown_of self.now).tasks }
+        ensures { result ≡ (task_at (data_of self.now).program.tasks t).outputs }
+    {
+        self.parts().program.tasks[t].outputs
+    }
+}
+
+// ---- its faults
+
+impl Mission {
+    /// Whether a unit works in frame f.
+    pub fn works(&self, u: UnitId, f: u32) -> bool
+        ensures { result ≡ (flown_of self.now).works u f }
+    {
+        self.parts().script.works(u, f)
+    }
+
+    /// What a unit says to another in the slot of a number, in frame f, in place of its own word, where it says something else.
+    pub fn override_of(&self, u: UnitId, f: u32, i: usize, to: UnitId) -> Option<Option<Word>>
+        requires { i < (flown_of self.now).slots }
+        ensures { result ≡ (flown_of self.now).override u f ((flown_of self.now).kind i) to }
+    {
+        // A unit that works says its own words, so only a faulty one's slot is looked up. Most words are said by units that work.
+        working_units_say_their_words();
+        if self.works(u, f) {
+            return None;
+        }
+        self.parts().script.override_of(u, f, self.kind(i), to)
+    }
+}
+
+// ---- its clocks, in whole ticks
+
+impl Mission {
+    /// How far from 0 a reading counts: the skew and the reading error.
+    pub fn reading_limit(&self) -> i32
+        ensures { result ≡ (flown_of self.now).skew +ℤ (flown_of self.now).error }
+    {
+        let clock = &self.parts().clock;
+        clock.skew + clock.error
+    }
+
+    /// The offset of a unit's clock as the flight begins.
+    pub fn offset(&self, u: UnitId) -> i64
+        requires { has (flown_of self.now).units u ≡ true }
+        ensures { result ≡ (flown_of self.now).offset u }
+    {
+        i64::from(ticks_at(&self.parts().clock.start, u))
+    }
+
+    /// The drift of a unit's clock in a frame.
+    pub fn drift(&self, u: UnitId) -> i32
+        requires { has (flown_of self.now).units u ≡ true }
+        ensures { result ≡ (flown_of self.now).drift u }
+    {
+        ticks_at(&self.parts().clock.drift, u)
+    }
+
+    /// The error of a unit's reading of another's clock.
+    pub fn error(&self, u: UnitId, p: UnitId) -> i32
+        requires own { has (flown_of self.now).units u ≡ true }
+        requires other { has (flown_of self.now).units p ≡ true }
+        ensures error { result ≡ (flown_of self.now).errors u p }
+        ensures small { IsWithin error_limit result (pos 0) }
+    {
+        ticks_at(&self.parts().clock.errors[usize::from(u.get())], p)
+    }
+}
+
+/// The ticks of a unit, in a list by units.
+fn ticks_at(ticks: &ArrayVec<i32, 8>, u: UnitId) -> i32
+    requires { u < length ticks.now.items }
+    ensures { result ≡ ticks_of ticks.now.items u }
+{
+    ticks[usize::from(u.get())]
 }

@@ -11,8 +11,7 @@ ghost use Rattle.sift_mission.specs.Flown.{table_for};
 ghost use Rattle.sift_mission.specs.PartsFit.{PartsFit};
 ghost use Rattle.sift_mission.specs.Timetable.{HasRowsFor, IsAgendaOf, IsLinked, IsNext, IsTimetableOf, AreTimetables};
 
-use crate::mission::Mission;
-use crate::parts::MissionParts;
+use crate::mission::{Mission, MissionParts, SLOT_LIMIT};
 use crate::schedule::slot_of;
 use sift_base::Slot;
 use sift_config::Config;
@@ -43,9 +42,9 @@ impl Timetable {
     /// A timetable of nothing.
     fn blank() -> Timetable {
         Timetable {
-            heard: Agenda::of([0; 90], 0),
-            said: Agenda::of([0; 90], 0),
-            run: Agenda::of([0; 90], 0),
+            heard: Agenda::of([0; SLOT_LIMIT], 0),
+            said: Agenda::of([0; SLOT_LIMIT], 0),
+            run: Agenda::of([0; SLOT_LIMIT], 0),
         }
     }
 
@@ -81,7 +80,7 @@ fn heard_times(parts: &MissionParts, tasks: &[u8], table: &GoodTable) -> Agenda
     requires table { HasRowsFor (data_of parts.now) table.now }
     ensures { IsAgendaOf (slot_count parts.now.layout) (λ i. heard_in table.now (shapes_in (data_of parts.now)) (slot_kind parts.now.layout i)) result }
 {
-    let mut times = [0; 90];
+    let mut times = [0; SLOT_LIMIT];
     let count = parts.layout.count();
     for i in 0..count {
         times[i] = heard_by(parts, tasks, table, i);
@@ -95,7 +94,7 @@ fn said_times(parts: &MissionParts, tasks: &[u8], table: &GoodTable) -> Agenda
     requires table { HasRowsFor (data_of parts.now) table.now }
     ensures { IsAgendaOf (slot_count parts.now.layout) (λ i. due_in table.now (shapes_in (data_of parts.now)) (slot_kind parts.now.layout i)) result }
 {
-    let mut times = [0; 90];
+    let mut times = [0; SLOT_LIMIT];
     let count = parts.layout.count();
     for i in 0..count {
         times[i] = said_by(parts, tasks, table, i);
@@ -109,7 +108,7 @@ fn run_times(parts: &MissionParts, table: &GoodTable) -> Agenda
     requires table { HasRowsFor (data_of parts.now) table.now }
     ensures { IsAgendaOf (length (data_of parts.now).program.tasks) (run_in table.now) result }
 {
-    let mut times = [0; 90];
+    let mut times = [0; SLOT_LIMIT];
     let count = parts.program.tasks.len();
     for t in 0..count {
         times[t] = table.run_of(t);
@@ -154,22 +153,22 @@ fn said_by(parts: &MissionParts, tasks: &[u8], table: &GoodTable, i: usize) -> u
 #[derive(Clone, Copy)]
 pub(crate) struct Agenda {
     count: usize,
-    times: [u8; 90],
+    times: [u8; SLOT_LIMIT],
     /// Of each number the next with its time, or the count.
-    next: [u8; 90],
+    next: [u8; SLOT_LIMIT],
     /// Of each time the first number that has it, or the count.
     first: [u8; 256],
 }
 
 impl Agenda {
     /// The agenda of these times, of which only so many count.
-    pub(crate) fn of(times: [u8; 90], count: usize) -> Agenda
+    pub(crate) fn of(times: [u8; SLOT_LIMIT], count: usize) -> Agenda
         requires { count ≤ 90 }
         ensures linked { IsLinked result }
         ensures count { result.count ≡ count }
         ensures times { result.times ≡ times }
     {
-        let mut next = [count as u8; 90];
+        let mut next = [count as u8; SLOT_LIMIT];
         let mut first = [count as u8; 256];
         // From the last number to the first: `first` then has, of each time, the next number behind that has it.
         for i in (0..count).rev() {

@@ -1,7 +1,26 @@
 //! The options of a command, as the words after the command give them.
 
-ghost use Rattle.std.specs.Prelude.{◌≡◌, ◌≢◌, ◌↔◌, ℕ, List, ◌∷◌, ◌++◌, codes, Contains, IfNone, IfSome, IsTrue, Some, map, string_bytes};
-ghost use Rattle.sift_options.specs.Options.{Adds, BeginWith, BeginsWithDigit, Give, IsDigitTo, IsNumber, IsValue, Sets, given, name_of, version_limit, worker_limit};
+ghost use Rattle.std.specs.Prelude.{◌≡◌, ◌≤◌, IfSome, ◌≢◌, ◌↔◌, ℕ, List, ◌∷◌, ◌++◌, codes, Contains, IfNone, IsTrue, Some, map, string_bytes};
+ghost use Rattle.sift_options.specs.Options.{within, Adds, BeginWith, BeginsWithDigit, Give, IsDigitTo, IsNumber, IsValue, Sets, given, name_of, version_limit, worker_limit};
+ghost use Rattle.sift_options.specs.Laws.{OneListGiven, OneListOfOptions};
+
+// ---- options whose numbers have a range
+
+/// The number of an option, where it is given and in this range.
+pub fn within(given: Option<u64>, low: u64, high: u64) -> Option<u64>
+    ensures number { result ≡ within low high given }
+    ensures from { IfSome result (λ n. low ≤ n) }
+    ensures to { IfSome result (λ n. n ≤ high) }
+{
+    let number = given?;
+    if low <= number && number <= high {
+        Some(number)
+    } else {
+        None
+    }
+}
+
+// ---- options
 
 /// The name of an option.
 #[derive(Clone, Copy)]
@@ -316,3 +335,11 @@ fn is_begun(text: &str) -> bool
 {
     matches!(text.as_bytes(), [b'0'..=b'9', ..])
 }
+
+// ---- their law
+
+/// Words give one list of options at most.
+pub fn one_list_of_options()
+    ensures beside { OneListOfOptions }
+    ensures alone { OneListGiven }
+{}

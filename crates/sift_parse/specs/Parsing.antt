@@ -1,8 +1,8 @@
 -- What the parser's functions answer, in the words of the readers. No public clause cites this module.
 use Rattle.std.specs.Prelude.{◌≡◌, ℕ, ◌≤◌, Bool, true, false, List, ◌∷◌, Option, Some, None, Result, Ok, Err}
 use Rattle.sift_lang.specs.declared.tree.Op.{Op}
-use Rattle.sift_parse.specs.declared.tokens.ReadStop.{ReadStop}
-use Rattle.sift_parse.specs.declared.tokens.ReadStop.TheVariants.{Syntax, NoMemory}
+use Rattle.sift_parse.specs.declared.token.ReadStop.{ReadStop}
+use Rattle.sift_parse.specs.declared.token.ReadStop.TheVariants.{Syntax, NoMemory}
 use Rattle.sift_parse.specs.declared.token.Token.{Token}
 use Rattle.sift_parse.specs.declared.token.Token.TheVariants.{Keyword, Operator}
 use Rattle.sift_parse.specs.declared.token.Keyword.TheVariants.{Else}

@@ -3,7 +3,7 @@ use Rattle.std.specs.Prelude.{◌≡◌, ◌<◌, ◌≤◌, ◌⊎◌, ◌+◌,
 use Rattle.std.specs.Char.{IsAsciiAlphabetic, IsAsciiLowercase, IsAsciiDigit, digit_value}
 use Rattle.std.specs.Str.{byte}
 use Rattle.sift_parse.specs.declared.lexeme.Lexeme as held
-use Rattle.sift_parse.specs.declared.lexer.Placed as held_placed
+use Rattle.sift_parse.specs.declared.lexeme.Placed as held_placed
 use Rattle.sift_parse.specs.declared.lexeme.Lexeme.TheVariants as variant
 use Rattle.sift_parse.specs.Lexeme.{number_limit, Lexeme, word, numeral, operator, mark, operator_bytes, sign_bytes, IsLexeme, Placed, Lexes, after_gap}
 

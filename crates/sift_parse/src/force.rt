@@ -12,8 +12,8 @@ ghost use Rattle.sift_parse.specs.Held.{force_of, NamesFew};
 ghost use Rattle.sift_parse.specs.Written.{lexeme_of};
 
 use crate::lexeme::Lexeme;
-use crate::look_up::{first_word, keyword_of, local_of, sensor_number, size_of, task_number};
-use crate::names::Names;
+use crate::scan::{first_word, keyword_of, local_of, sensor_number, size_of, task_number};
+use crate::task::Names;
 use crate::token::{Keyword, Sign, Token};
 use sift_base::NoMemory;
 use sift_lang::Op;

@@ -1,13 +1,97 @@
-//! The lexeme at the front of bytes.
-ghost use Rattle.std.specs.Prelude.{◌≡◌, ℕ, ◌<◌, ◌∷◌, [], IfSome, IfNone};
-ghost use Rattle.sift_parse.specs.Lexeme.{numeral};
-ghost use Rattle.sift_parse.specs.Written.{SpellsSign, NoSign, IsSignAt, NoSignAt, IsLexemeAt, NoLexemeAt, BeginsLetter, BeginsDigit, IsHexLength, IsNumberAt, lexeme_of};
+//! The lexemes of a text, with their places.
 
-use crate::runs::{
-    begins_name, begins_number, continues_number, digits_len, name_len, number_kept,
-};
+ghost use Rattle.std.specs.Prelude.{◌≡◌, ◌↔◌, ◌<◌, ◌≤◌, ℕ, IsTrue, length, slice_index, EachIndex, ◌∷◌, [], IfSome, IfNone, IfOk, drop};
+ghost use Rattle.std.specs.Char.{digit_value, IsAsciiAlphabetic};
+ghost use Rattle.std.specs.Str.{byte};
+ghost use Rattle.std.specs.Str.Parse.{digits_value};
+ghost use Rattle.sift_base.specs.Name.{IsNameByte};
+ghost use Rattle.sift_parse.specs.Written.{kept, IsRun, Continues, BeginsLetter, BeginsDigit, SpellsSign, NoSign, IsSignAt, NoSignAt, IsLexemeAt, NoLexemeAt, IsHexLength, IsNumberAt, lexeme_of, IsGap, IsLexed, placed_of};
+ghost use Rattle.sift_parse.specs.Lexeme.{numeral, is_blank, after_gap, text_limit};
+ghost use Rattle.sift_parse.specs.Scanned.{end_stop};
+
+use crate::task::{ParseStop, place};
 use crate::token::Sign;
+use sift_base::{NoMemory, is_name_byte};
 use sift_lang::Op;
+use std::alloc::Global;
+
+// ---- runs of bytes of one kind
+
+/// What is kept of a number that is greater than a text may hold.
+const TOO_LARGE: u32 = 65_536;
+
+/// How many bytes at the front may stand in a name.
+fn name_len(bytes: &[u8]) -> usize
+    ensures { IsRun IsNameByte bytes.now result }
+{
+    for (i, b) in bytes.iter().enumerate() {
+        if !is_name_byte(*b) {
+            return i;
+        }
+    }
+    bytes.len()
+}
+
+/// How many bytes at the front are digits.
+fn digits_len(bytes: &[u8], radix: u32) -> usize
+    requires low { 2 ≤ radix }
+    requires high { radix ≤ 36 }
+    ensures { IsRun (λ b. digit_value b < radix) bytes.now result }
+{
+    for (i, b) in bytes.iter().enumerate() {
+        if !char::from(*b).is_digit(radix) {
+            return i;
+        }
+    }
+    bytes.len()
+}
+
+/// What is kept of the number that the digits write.
+fn number_kept(digits: &[u8], radix: u32) -> u32
+    requires low { 2 ≤ radix }
+    requires high { radix ≤ 36 }
+    requires digits { EachIndex digits.now (λ k. digit_value (slice_index digits.now k) < radix) }
+    ensures { result ≡ kept (digits_value radix digits.now) }
+{
+    let mut n: u32 = 0;
+    for b in digits {
+        let digit = char::from(*b).to_digit(radix).unwrap_or(0);
+        n = (n * radix + digit).min(TOO_LARGE);
+    }
+    n
+}
+
+/// Whether the bytes begin with what may not follow a number directly: a letter or `_`.
+fn continues_number(bytes: &[u8]) -> bool
+    ensures { IsTrue result ↔ Continues bytes.now }
+{
+    match bytes {
+        [b, ..] => b.is_ascii_alphabetic() || *b == b'_',
+        [] => false,
+    }
+}
+
+/// Whether the bytes begin with a lower-case letter, as a word does.
+fn begins_name(bytes: &[u8]) -> bool
+    ensures { IsTrue result ↔ BeginsLetter bytes.now }
+{
+    match bytes {
+        [b, ..] => b.is_ascii_lowercase(),
+        [] => false,
+    }
+}
+
+/// Whether the bytes begin with a digit, as a number does.
+fn begins_number(bytes: &[u8]) -> bool
+    ensures { IsTrue result ↔ BeginsDigit bytes.now }
+{
+    match bytes {
+        [b, ..] => b.is_ascii_digit(),
+        [] => false,
+    }
+}
+
+// ---- the lexeme at the front of bytes
 
 /// What the bytes of a text are, before names are taken for what they name.
 #[derive(Clone, Copy)]
@@ -110,7 +194,7 @@ fn number_at(bytes: &[u8]) -> Option<(u32, usize)>
 }
 
 /// The lexeme at the front, and how many bytes it has.
-pub(crate) fn lexeme_at(bytes: &[u8]) -> Option<(Lexeme<'_>, usize)>
+fn lexeme_at(bytes: &[u8]) -> Option<(Lexeme<'_>, usize)>
     ensures found { IfSome result (λ r. IsLexemeAt bytes.now (lexeme_of r.0) r.1) }
     ensures none { IfNone result (NoLexemeAt bytes.now) }
 {
@@ -123,4 +207,74 @@ pub(crate) fn lexeme_at(bytes: &[u8]) -> Option<(Lexeme<'_>, usize)>
         return Some((Lexeme::Numeral(number), len));
     }
     sign_at(bytes)
+}
+
+// ---- the lexemes of a text
+
+/// A lexeme and the place of its first byte.
+#[derive(Clone, Copy)]
+pub(crate) struct Placed<'a> {
+    pub lexeme: Lexeme<'a>,
+    pub at: usize,
+}
+
+/// The lexemes of a text as far as there are any, and the place where the next would begin.
+#[derive(Drop)]
+pub(crate) struct Lexed<'a> {
+    pub placed: Vec<Placed<'a>>,
+    pub end: usize,
+}
+
+impl Lexed<'_> {
+    /// What is answered to the bytes that begin no lexeme, where a text of this length has any.
+    pub fn stop(&self, len: usize) -> Option<ParseStop>
+        requires { self.now.end ≤ text_limit }
+        ensures { result ≡ end_stop self.now.end len }
+    {
+        if self.end < len {
+            Some(ParseStop::Lex {
+                at: place(self.end),
+            })
+        } else {
+            None
+        }
+    }
+}
+
+/// Whether the byte is blank.
+fn is_space(byte: u8) -> bool
+    ensures { result ≡ is_blank byte }
+{
+    byte == b' ' || byte == b'\t' || byte == b'\n' || byte == b'\r'
+}
+
+/// How many bytes of blanks and comments stand at the front.
+fn gap_len(bytes: &[u8]) -> usize
+    ensures { IsGap bytes.now result }
+{
+    let mut in_comment = false;
+    for (i, byte) in bytes.iter().enumerate() {
+        if in_comment {
+            in_comment = *byte != b'\n';
+        } else if *byte == b'#' {
+            in_comment = true;
+        } else if !is_space(*byte) {
+            return i;
+        }
+    }
+    bytes.len()
+}
+
+/// The lexemes of the text.
+pub(crate) fn lex(alloc: Global, text: &[u8]) -> Result<Lexed<'_>, NoMemory>
+    ensures { IfOk result (λ r. IsLexed text.now (placed_of r.placed.items) r.end) }
+{
+    let mut placed = Vec::new(alloc);
+    let mut at = gap_len(text);
+    while let Some((lexeme, len)) = lexeme_at(&text[at..]) {
+        placed.push(Placed { lexeme, at })?;
+        at += len;
+        at += gap_len(&text[at..]);
+    }
+    Ok(Lexed { placed, end: at })
 }

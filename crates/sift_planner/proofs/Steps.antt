@@ -3,8 +3,8 @@ use Rattle.std.proofs.Common.{◌≡◌, ℕ, suc, ◌+◌, ◌<◌, List, [], �
 use Rattle.std.proofs.lemmas.Bool.{cases_lt}
 use Rattle.std.proofs.lemmas.List.{get_or-map, get_or_append_left, get_or_push, length-append, length-map, map_push}
 use Rattle.sift_base.specs.Shapes.{AllShapes, Shape, shape_at, shape_of, shapes_of}
-use Rattle.sift_base.specs.declared.shapes.Shapes.{Shapes}
-use Rattle.sift_base.specs.declared.shapes.TaskShape.{TaskShape}
+use Rattle.sift_base.specs.declared.slots.Shapes.{Shapes}
+use Rattle.sift_base.specs.declared.slots.TaskShape.{TaskShape}
 use Rattle.sift_base.specs.Stop.{IfRefused}
 use Rattle.sift_table.specs.Schedule.{Schedule, hearing_delay, schedule_of}
 use Rattle.sift_table.specs.declared.table.Table.{Table}
@@ -15,7 +15,7 @@ use Rattle.sift_planner.specs.Refused.{IfNoRoom, stop_at}
 use Rattle.sift_planner.specs.Sizes.{table_at}
 use Rattle.sift_planner.specs.declared.planning.PlanStop.{PlanStop}
 use Rattle.sift_planner.specs.declared.planning.PlanStop.TheVariants.{NoRoom, NoMemory}
-use Rattle.sift_planner.specs.declared.sizes.NoRoomAt.{NoRoomAt}
+use Rattle.sift_planner.specs.declared.planning.NoRoomAt.{NoRoomAt}
 use Rattle.sift_planner.proofs.Used.{planned_more}
 
 -- the shape of a task that the code holds

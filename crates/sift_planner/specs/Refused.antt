@@ -4,7 +4,7 @@ use Rattle.sift_base.specs.declared.stop.Stop.{Stop}
 use Rattle.sift_base.specs.declared.stop.Stop.TheVariants as stop
 use Rattle.sift_planner.specs.declared.planning.PlanStop.{PlanStop}
 use Rattle.sift_planner.specs.declared.planning.PlanStop.TheVariants.{NoRoom, NoMemory}
-use Rattle.sift_planner.specs.declared.sizes.NoRoomAt.{NoRoomAt}
+use Rattle.sift_planner.specs.declared.planning.NoRoomAt.{NoRoomAt}
 
 -- where there is no room for a task this holds of it; want of memory says nothing
 abbrev pub IfNoRoom : (ℕ → Type 0) → PlanStop → Type 0

@@ -3,7 +3,7 @@ use Rattle.std.specs.Prelude.{◌≡◌, ℕ, ◌+◌, ◌<◌, ◌≤◌, List,
 use Rattle.sift_base.specs.Layout.{least_units}
 use Rattle.sift_base.specs.Shapes.{AllShapes}
 use Rattle.sift_table.specs.Schedule.{Schedule}
-use Rattle.sift_planner.specs.declared.sizes.NoRoomAt.{NoRoomAt}
+use Rattle.sift_planner.specs.declared.planning.NoRoomAt.{NoRoomAt}
 use Rattle.sift_planner.specs.Plans.{ArePlannable, HasNoRoom, IsPlan, wanted}
 
 -- the table at a place, and an empty one past the list's end

@@ -12,6 +12,9 @@ use sift_base::NoMemory;
 use sift_table::{AGREED_IN, HEARING_DELAY, REPORT_LEAD, Table};
 use std::alloc::{AllocError, Global};
 
+/// The most subframes of a frame.
+const LONGEST_PERIOD: usize = 64;
+
 /// A table whose first rows stand, and which positions they use.
 #[derive(Drop)]
 pub(crate) struct Draft {
@@ -19,7 +22,7 @@ pub(crate) struct Draft {
     /// How many positions execute each task.
     executors: u8,
     /// By subframe, how many positions are used in it. Each row takes the first that are free, so they are its first.
-    used: [u8; 64],
+    used: [u8; LONGEST_PERIOD],
 }
 
 impl Draft {
@@ -43,7 +46,7 @@ impl Draft {
                 shed: Vec::new(alloc),
             },
             executors: copies.min(size),
-            used: [0; 64],
+            used: [0; LONGEST_PERIOD],
         }
     }
 
@@ -56,6 +59,7 @@ impl Draft {
         ensures shut { IfNone result ((subframe : ℕ) →
             ¬ IsOpen (drafted self.now) self.now.executors needs.now (rows_in self.now) subframe) }
     {
+        // From this subframe on a task would be polled after the reports are made.
         let end = self.table.period - REPORT_LEAD - HEARING_DELAY + 1;
         for subframe in AGREED_IN..end {
             if self.is_open(needs, subframe) {

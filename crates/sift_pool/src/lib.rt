@@ -3,10 +3,6 @@
 //! Only `Pool::make` takes memory. Spans are carved one after another, and the last are released first.
 #![tactic(auto)]
 
-mod memory;
 mod pool;
-mod span;
 
-pub use memory::NoMemory;
-pub use pool::Pool;
-pub use span::{Full, Mark, Span};
+pub use pool::{Full, Mark, NoMemory, Pool, Span};

@@ -1,15 +1,66 @@
-//! The pool: words in spans, one after another.
+//! The pool, which has words in spans, one after another; and what a caller holds of it.
 
-ghost use Rattle.std.specs.Prelude.{◌≡◌, ◌<◌, ◌≤◌, ◌↔◌, length, IsTrue, IsOk, IsErr, IfOk, IfErr, OnErr};
-ghost use Rattle.std.specs.Prelude.{slice_index, slice_set, replicate, ◌+◌, ◌++◌, vec_len, vec_capacity};
+ghost use Rattle.std.specs.Prelude.{ℕ, ◌≡◌, ◌<◌, ◌≤◌, ◌↔◌, length, IsTrue, IsOk, IsErr, IfOk, IfErr, OnErr, slice_index, slice_set, replicate, ◌+◌, ◌++◌, vec_len, vec_capacity};
+ghost use Rattle.sift_pool.specs.Region.{Extent, empty_region, words_at, with_words, first_spans, left_in, IsLive, KeepsLive, KeepsLiveBelow, Carves};
 ghost use Rattle.std.specs.Borrow.{sem};
-ghost use Rattle.sift_pool.specs.Region.{empty_region, words_at, with_words, first_spans, left_in};
-ghost use Rattle.sift_pool.specs.Region.{IsLive, KeepsLive, KeepsLiveBelow, Carves};
 
-use crate::memory::NoMemory;
-use crate::span::{Full, Mark, Span};
-use std::alloc::Global;
+use std::alloc::{AllocError, Global};
 use std::marker::Model;
+
+// ---- want of memory
+
+/// An allocation failed. Only the call that makes a pool may answer this, and it says nothing else.
+#[derive(Clone, Copy, Debug, PartialEq, Eq)]
+pub struct NoMemory;
+
+impl From<AllocError> for NoMemory {
+    fn from(_: AllocError) -> Self {
+        NoMemory
+    }
+}
+
+// ---- what a caller holds of a pool
+
+/// A span of a pool: words that lie together.
+///
+/// A clause sees its number, counted from 0, its start and its length.
+#[derive(Clone, Copy, PartialEq, Eq)]
+pub struct Span {
+    pub(crate) number: usize,
+    pub(crate) start: usize,
+    pub(crate) len: usize,
+}
+
+impl Model for Span {
+    ghost Value = { Extent };
+
+    ghost view = { λ s. record { number = s.number; start = s.start; len = s.len } };
+
+    ghost inverse = { λ p. record { number = p.number; start = p.start; len = p.len } };
+}
+
+/// How many spans a pool had when it was marked. A clause sees that number.
+#[derive(Clone, Copy)]
+pub struct Mark {
+    pub(crate) count: usize,
+}
+
+impl Model for Mark {
+    ghost Value = { ℕ };
+
+    ghost view = { λ m. m.count };
+
+    ghost inverse = { λ n. record { count = n } };
+}
+
+/// The pool has too few words left for a span.
+#[derive(Clone, Copy, Debug, PartialEq, Eq)]
+pub struct Full {
+    /// How many words are in no span.
+    pub left: usize,
+}
+
+// ---- the pool
 
 /// A region of 16-bit words, and the spans that were carved from it.
 ///

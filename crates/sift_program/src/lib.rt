@@ -5,8 +5,8 @@
 
 mod ideal;
 mod program;
-mod shapes;
 
 pub use ideal::{Ideal, ideal_frame_is_unique};
-pub use program::{Program, TASK_LIMIT, WORD_LIMIT, limits_are_the_missions};
-pub use shapes::{shapes_of, sound_programs_have_shapes};
+pub use program::{
+    Program, TASK_LIMIT, WORD_LIMIT, limits_are_the_missions, shapes_of, sound_programs_have_shapes,
+};

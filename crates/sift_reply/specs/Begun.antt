@@ -1,8 +1,8 @@
 -- How far a job has come.
 use Rattle.std.specs.Prelude.{◌≡◌, ℕ, List}
 use Rattle.sift_reply.specs.Reply.{Reply, done}
-use Rattle.sift_reply.specs.declared.begun.Begun.{Begun}
-use Rattle.sift_reply.specs.declared.begun.Begun.TheVariants.{Replied, Left}
+use Rattle.sift_reply.specs.declared.reply.Begun.{Begun}
+use Rattle.sift_reply.specs.declared.reply.Begun.TheVariants.{Replied, Left}
 
 module _ {W : Type 0} (gives : W → List ℕ → Type 0) where
   -- this reply may come of it: it is there, or has a text that may come of what is left

@@ -7,9 +7,7 @@ ghost use Rattle.sift_reply.specs.Reply.{IsBroken, IsGiven, no_memory_status};
 ghost use Rattle.sift_reply.specs.Laws.{ShareNoStatus};
 ghost use Rattle.sift_reply.specs.Promise.{AskForNoInput, IsAnswered, IsCertain, IsOwed, MayWant};
 
-use crate::begun::{Begun, Work};
-use crate::job::{Asked, Job};
-use crate::reply::{NO_MEMORY_STATUS, Reply, SINK_FAULT_STATUS};
+use crate::reply::{Asked, Begun, Job, NO_MEMORY_STATUS, Reply, SINK_FAULT_STATUS, Work};
 use sift_base::NoMemory;
 use sift_io::{ReadStop, Sink, Source, WriteStop, read_all, write_all};
 use std::alloc::Global;

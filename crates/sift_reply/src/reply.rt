@@ -1,11 +1,44 @@
-//! Replies.
+//! Replies: what a command owes, and how far a job has come.
 
-ghost use Rattle.std.specs.Prelude.{◌≡◌, string_bytes};
+ghost use Rattle.std.specs.Prelude.{◌≡◌, string_bytes, ℕ, List, IfNone, IfOk, IfSome, map};
+ghost use Rattle.sift_reply.specs.Begun.{ComesTo};
+ghost use Rattle.sift_reply.specs.Duty.{Duty};
+ghost use Rattle.sift_reply.specs.Laws.{GivesOneOwesOne, StatusesAreExplained};
 ghost use Rattle.sift_reply.specs.Reply as spec;
 
+use sift_base::NoMemory;
 use std::alloc::Global;
 use std::borrow::CowStr;
 use std::marker::Model;
+
+// ---- how far a job has come
+
+/// What is left to be done for the text of a reply with the status 0.
+pub trait Work: Drop {
+    ghost use Rattle.std.specs.Prelude.{ℕ, List};
+
+    /// The texts that may come of it.
+    ghost gives: { Self → List ℕ → Type 0 };
+}
+
+/// No work: no value of it is made.
+#[derive(Drop)]
+pub enum NoWork {}
+
+impl Work for NoWork {
+    ghost gives = { λ work text. ⊥ };
+}
+
+/// How far a job has come.
+#[derive(Drop)]
+pub enum Begun<W> {
+    /// It has its reply.
+    Replied(Reply),
+    /// This is left to be done for one.
+    Left(W),
+}
+
+// ---- replies
 
 /// The status where the sink failed within the text of a reply.
 pub(crate) const SINK_FAULT_STATUS: u8 = 9;
@@ -78,3 +111,42 @@ impl Reply {
         Reply::fixed(11, "too long\n")
     }
 }
+
+// ---- what a command defines
+
+/// Something to be done for an input, or for none, by means of this type. What it leaves to be done is of that type.
+pub trait Job<M, W: Work>: Copy {
+    /// What it has to do by such means.
+    ghost duty: { M → Self → Duty };
+
+    /// The most bytes of its input. There is none where it reads nothing.
+    fn limit(self) -> Option<u32>
+        ensures { (means : M) → result ≡ (duty means self).limit };
+
+    /// A reply to these bytes, the whole input, or what is left to be done for one. A job that reads nothing is handed none.
+    fn begin(self, alloc: Global, means: M, bytes: &[u8]) -> Result<Begun<W>, NoMemory>
+        ensures { IfOk result (ComesTo W.gives ((duty means self).gives bytes.now)) };
+}
+
+/// A job that words may ask for.
+pub trait Asked<M, W: Work>: Job<M, W> {
+    /// The words ask for this one.
+    ghost asks: { List (List ℕ) → Self → Type 0 };
+
+    /// What the words ask for, where they are a command line.
+    fn from_words(words: &[String]) -> Option<Self>
+        ensures found { IfSome result (asks (map string_bytes words.now)) }
+        ensures none { IfNone result ((job : Self) → ¬ asks (map string_bytes words.now) job) };
+}
+
+// ---- laws
+
+/// What each status says, whatever the commands and their means are.
+pub fn statuses_are_explained<M, W: Work, C: Asked<M, W>>()
+    ensures { (means : M) → StatusesAreExplained (record { asks = C.asks; duty = C.duty means }) }
+{}
+
+/// A job that gives one reply to an input owes one to its bytes. The input of a job that reads nothing is empty.
+pub fn gives_one_owes_one<M, W: Work, J: Job<M, W>>()
+    ensures { (means : M) (job : J) → GivesOneOwesOne (J.duty means job) }
+{}

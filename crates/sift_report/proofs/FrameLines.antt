@@ -9,7 +9,7 @@ use Rattle.sift_base.specs.laws.Ranges.{range-low}
 use Rattle.sift_exec.specs.Conviction.{everyone_in}
 use Rattle.sift_mission.specs.Data.{MissionData}
 use Rattle.sift_mission.specs.Flown.{flown}
-use Rattle.sift_line.specs.declared.version.Version.{Version}
+use Rattle.sift_line.specs.declared.line.Version.{Version}
 use Rattle.sift_line.specs.declared.line.ReportLine.{ReportLine}
 use Rattle.sift_conduct.specs.Conduct.{caught}
 use Rattle.sift_flight.specs.Figures.{HasMarginAt, Works, config_at, lead_of, next_offsets_at, offsets_at, working_at, skew_of, slack_of}
@@ -18,7 +18,7 @@ use Rattle.sift_flight.specs.Headline.{Headline, agreed_at, two_caught}
 use Rattle.sift_flight.specs.laws.Leading.{config_within, lead_works}
 use Rattle.sift_report.specs.Headline.{TellsClockSkew, TellsExactRemoval, TellsNoFalseAccusation, TellsSameInputs}
 use Rattle.sift_report.specs.Sheet.{sheet_of}
-use Rattle.sift_report.specs.Told.{agreed_told, config_told, told_at, told_in}
+use Rattle.sift_report.specs.Told.{agreed_told, config_told, line_at, told_at, told_in}
 use Rattle.sift_report.proofs.Alike.{one_told}
 use Rattle.sift_report.proofs.RoundFlights.{HasLaws}
 use Rattle.sift_report.proofs.SheetConfigs.{agreed_is, config_is}
@@ -55,20 +55,24 @@ module _ (d : MissionData) (fl : Flight) (version : Version) (laws : HasLaws d f
     lead : Works (flown d) (lead_of (flown d) f) f
     lead = lead_works (flown d) laws.flyable f
 
-    -- a working unit tells its account
-    pub tells_account : (u : ℕ) → Works (flown d) u f → told_at d sheet f u ≡ told_in (Some (account_line version f u (fl.account u f)))
-    tells_account u w =
+    -- the line of a working unit is that of its account
+    pub line_is : (u : ℕ) → Works (flown d) u f → line_at d sheet f u ≡ Some (account_line version f u (fl.account u f))
+    line_is u w =
         let h = holds_here.same_configuration in
         let member : has (fl.account u f).cfg u ≡ true = subst (λ us. has us u ≡ true) (sym (h.same u w)) (h.member u w) in
         let low : u < d.units = omega (arith, range-low 0 d.units u w.unit) in
-        ap told_in (unit_at d fl version f u within low ∙ ap Some (line_of_member d fl version f u w.works member))
+        unit_at d fl version f u within low ∙ ap Some (line_of_member d fl version f u w.works member)
+
+    -- so it tells its account
+    pub tells_account : (u : ℕ) → Works (flown d) u f → told_at d sheet f u ≡ told_in (Some (account_line version f u (fl.account u f)))
+    tells_account u w = ap told_in (line_is u w)
 
     -- and so the configuration at the frame
     pub tells_config : (u : ℕ) → Works (flown d) u f → (told_at d sheet f u).config ≡ Some (config_at (flown d) fl f)
     tells_config u w = ap (λ t. t.config) (tells_account u w) ∙ ap Some (holds_here.same_configuration.same u w)
 
     -- which is the one that is told
-    is_told : (us : List ℕ) → config_told d sheet f ≡ Some us → us ≡ config_at (flown d) fl f
+    pub is_told : (us : List ℕ) → config_told d sheet f ≡ Some us → us ≡ config_at (flown d) fl f
     is_told us told =
         one_told us (config_at (flown d) fl f) _ told (config_is d fl version laws f (omega arith) (λ g early. at g (omega arith)))
 
@@ -96,7 +100,8 @@ module _ (d : MissionData) (fl : Flight) (version : Version) (laws : HasLaws d f
 
     -- ---- faults
 
-    caught_is : (u : ℕ) → Works (flown d) u f → (told_at d sheet f u).caught ≡ everyone_in (fl.account u f).bad
+    -- a working unit tells everyone whom it caught
+    pub caught_is : (u : ℕ) → Works (flown d) u f → (told_at d sheet f u).caught ≡ everyone_in (fl.account u f).bad
     caught_is u w = ap (λ t. t.caught) (tells_account u w) ∙ units_told version (fl.account u f).bad
 
     -- no working unit tells that it caught a working unit

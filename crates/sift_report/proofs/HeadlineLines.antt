@@ -9,7 +9,7 @@ use Rattle.sift_flight.specs.Headline.{agreed_at, shed_at}
 use Rattle.sift_report.specs.Headline.{FrameHeadline, TellsIdealOutputs, TellsTrueMargin, ReportHeadline}
 use Rattle.sift_report.specs.Sheet.{sheet_of}
 use Rattle.sift_report.specs.Told.{HasMarginTold, agreed_told, shed_told, told_in}
-use Rattle.sift_line.specs.declared.version.Version.{Version}
+use Rattle.sift_line.specs.declared.line.Version.{Version}
 use Rattle.sift_line.specs.declared.line.ReportLine.{ReportLine}
 use Rattle.sift_report.proofs.Alike.{words_alike}
 use Rattle.sift_report.proofs.FrameLines.{agrees, clock_skew, exact_removal, holds_here, no_false_accusation, same_inputs, tells_account, tells_config}

@@ -7,13 +7,13 @@ use Rattle.std.proofs.lemmas.List.FromFn.{length-range_with_len}
 use Rattle.std.proofs.lemmas.Bool.{ne_eqb, eq-eqb}
 use Rattle.sift_base.specs.Layout.{slot_number}
 use Rattle.sift_base.specs.Units.{has, IsAscending, others}
-use Rattle.sift_base.specs.declared.slot.Slot.TheVariants.{Out}
+use Rattle.sift_base.specs.declared.slots.Slot.TheVariants.{Out}
 use Rattle.sift_base.specs.laws.Ranges.{range-has}
 use Rattle.sift_buffer.specs.Journals.{IsJournalOf, Pages, heard_in, ranges_in, said_in, no_pages}
 use Rattle.sift_buffer.specs.Ranges.{IsPlace}
 use Rattle.sift_mission.specs.Parts.{data_of, flown_of}
 use Rattle.sift_mission.specs.PartsFit.{PartsFit}
-use Rattle.sift_mission.specs.declared.parts.MissionParts.{MissionParts}
+use Rattle.sift_mission.specs.declared.mission.MissionParts.{MissionParts}
 use Rattle.sift_flight.specs.Flight.{Flight}
 use Rattle.sift_flight.specs.Told.{IsWhole, journal_of, told}
 use Rattle.sift_flight.specs.declared.flight.Flight.{Flight as TheFlight}

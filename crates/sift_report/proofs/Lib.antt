@@ -1,5 +1,7 @@
 mod Alike
+mod CaughtLines
 mod CompiledFrames
+mod FirstLiar
 mod FrameLines
 mod HeadlineLines
 mod Held

@@ -18,7 +18,7 @@ use Rattle.sift_mission.specs.Data.{MissionData, FlownMission}
 use Rattle.sift_mission.specs.Parts.{data_of}
 use Rattle.sift_mission.specs.Flown.{flown}
 use Rattle.sift_mission.specs.PartsFit.{PartsFit}
-use Rattle.sift_mission.specs.declared.parts.MissionParts.{MissionParts}
+use Rattle.sift_mission.specs.declared.mission.MissionParts.{MissionParts}
 use Rattle.sift_line.specs.Part.{blank, list_text, text_or_dash, unit_digit, word_text}
 use Rattle.sift_mission.specs.Slots.{executors}
 use Rattle.sift_flight.specs.Flight.{Flight, config_of}

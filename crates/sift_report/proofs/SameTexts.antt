@@ -6,7 +6,7 @@ use Rattle.sift_base.specs.laws.Counts.{has-head, has-tail, map-same}
 use Rattle.sift_mission.specs.Data.{MissionData}
 use Rattle.sift_mission.specs.Flown.{flown}
 use Rattle.sift_line.specs.Line.{printed, text_of_lines}
-use Rattle.sift_line.specs.declared.version.Version.{Version}
+use Rattle.sift_line.specs.declared.line.Version.{Version}
 use Rattle.sift_line.specs.declared.line.ReportLine.TheVariants.{Faulty, Last}
 use Rattle.sift_conduct.specs.Conduct.{Account, Places}
 use Rattle.sift_flight.specs.Alike.{AreAlike}

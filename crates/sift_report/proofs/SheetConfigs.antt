@@ -5,7 +5,7 @@ use Rattle.sift_base.specs.Units.{HasMargin, has}
 use Rattle.sift_base.specs.laws.Ranges.{range-low}
 use Rattle.sift_mission.specs.Data.{MissionData}
 use Rattle.sift_mission.specs.Flown.{flown}
-use Rattle.sift_line.specs.declared.version.Version.{Version}
+use Rattle.sift_line.specs.declared.line.Version.{Version}
 use Rattle.sift_line.specs.declared.line.ReportLine.{ReportLine}
 use Rattle.sift_flight.specs.Figures.{HasMarginAt, Works, config_at, lead_of}
 use Rattle.sift_flight.specs.Flight.{Flight, config_of}

@@ -9,8 +9,8 @@ use Rattle.sift_exec.specs.declared.catches.Catches.{Catches}
 use Rattle.sift_line.specs.Bad.{bad_in, units_in}
 use Rattle.sift_mission.specs.Data.{MissionData}
 use Rattle.sift_mission.specs.Flown.{flown}
-use Rattle.sift_line.specs.declared.version.Version.{Version}
-use Rattle.sift_line.specs.declared.version.Version.TheVariants.{One, Two}
+use Rattle.sift_line.specs.declared.line.Version.{Version}
+use Rattle.sift_line.specs.declared.line.Version.TheVariants.{One, Two}
 use Rattle.sift_line.specs.declared.line.ReportLine.TheVariants.{Faulty, Idle}
 use Rattle.sift_flight.specs.Figures.{Works}
 use Rattle.sift_flight.specs.Flight.{Flight}

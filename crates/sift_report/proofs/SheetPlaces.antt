@@ -5,7 +5,7 @@ use Rattle.std.proofs.lemmas.List.{length-append}
 use Rattle.std.proofs.lemmas.List.FromFn.{length-map-range_with_len}
 use Rattle.sift_mission.specs.Data.{MissionData}
 use Rattle.sift_mission.specs.Flown.{flown}
-use Rattle.sift_line.specs.declared.version.Version.{Version}
+use Rattle.sift_line.specs.declared.line.Version.{Version}
 use Rattle.sift_flight.specs.Flight.{Flight}
 use Rattle.sift_report.specs.Sheet.{frame_line, frame_lines, last_line, sheet_of, unit_line}
 use Rattle.sift_report.specs.Told.{line_at}

@@ -12,8 +12,8 @@ use Rattle.sift_report.specs.Sheet.{frame_line, frame_lines, last_line, unit_lin
 use Rattle.sift_report.specs.Versions.{SheetsHaveTheirVersion}
 use Rattle.sift_line.specs.declared.line.ReportLine.{ReportLine}
 use Rattle.sift_line.specs.declared.line.ReportLine.TheVariants.{Faulty, Idle}
-use Rattle.sift_line.specs.declared.version.Version.{Version}
-use Rattle.sift_line.specs.declared.version.Version.TheVariants.{One, Two}
+use Rattle.sift_line.specs.declared.line.Version.{Version}
+use Rattle.sift_line.specs.declared.line.Version.TheVariants.{One, Two}
 use Rattle.sift_report.proofs.Tells.{account_line}
 
 -- what a version tells of catches is told in that version

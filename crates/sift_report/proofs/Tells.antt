@@ -17,7 +17,7 @@ use Rattle.sift_line.specs.Part.{blank}
 use Rattle.sift_report.specs.Votes.{unit_votes}
 use Rattle.sift_line.specs.declared.line.ReportLine.{ReportLine}
 use Rattle.sift_line.specs.declared.line.ReportLine.TheVariants.{Unit as unit}
-use Rattle.sift_line.specs.declared.version.Version.{Version}
+use Rattle.sift_line.specs.declared.line.Version.{Version}
 
 -- at least two working units of a configuration tell that they caught v
 abbrev pub two_tell : MissionData → List ReportLine → ℕ → List ℕ → ℕ → Bool

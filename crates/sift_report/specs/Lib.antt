@@ -6,5 +6,7 @@ pub mod OneText
 pub mod Versions
 pub mod Told
 pub mod Headline
+pub mod Caught
 pub mod Printed
 pub mod TwoCatchers
+pub mod FirstLiar

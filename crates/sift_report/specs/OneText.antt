@@ -7,7 +7,7 @@ use Rattle.sift_flight.specs.Flight.{Flight}
 use Rattle.sift_line.specs.Line.{text_of_lines}
 use Rattle.sift_report.specs.Sheet.{end_of, sheet_of}
 use Rattle.sift_report.specs.Votes.{votes_of}
-use Rattle.sift_line.specs.declared.version.Version.{Version}
+use Rattle.sift_line.specs.declared.line.Version.{Version}
 
 -- two flights have one report in each version, one text of votes and one last line
 pub record HaveOneText (d : MissionData) (fl gl : Flight) : Type 0 where

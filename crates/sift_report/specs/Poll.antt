@@ -4,7 +4,7 @@ use Rattle.sift_base.specs.Layout.{word_limit}
 use Rattle.sift_base.specs.Units.{has}
 use Rattle.sift_mission.specs.Data.{MissionData, FlownMission}
 use Rattle.sift_mission.specs.Parts.{flown_of}
-use Rattle.sift_mission.specs.declared.parts.MissionParts.{MissionParts}
+use Rattle.sift_mission.specs.declared.mission.MissionParts.{MissionParts}
 use Rattle.sift_program.specs.Program.{task_at, first_word}
 use Rattle.sift_flight.specs.Flight.{Flight, config_of}
 use Rattle.sift_flight.specs.Told.{IsWhole, told}

@@ -1,20 +1,30 @@
--- What the sheets of round flights tell: the headline, and their flights' configurations and margins.
-use Rattle.std.specs.Prelude.{◌≡◌, ◌↔◌, ℕ, ◌<◌, ◌≤◌, Some}
+-- What the sheets of round flights tell: the headline, whom lies cost their place, and their flights' configurations and margins.
+use Rattle.std.specs.Prelude.{◌≡◌, ◌↔◌, ℕ, ◌<◌, ◌≤◌, List, Some}
 use Rattle.sift_mission.specs.Data.{MissionData}
 use Rattle.sift_mission.specs.Flown.{flown}
 use Rattle.sift_mission.specs.PartsFit.{PartsFit}
 use Rattle.sift_flight.specs.Figures.{HasMarginAt, config_at}
 use Rattle.sift_flight.specs.Flight.{Flight, Strays, IsRound}
 use Rattle.sift_flight.specs.Headline.{agreed_at}
+use Rattle.sift_report.specs.Caught.{ReportCaught}
 use Rattle.sift_report.specs.Headline.{ReportHeadline}
 use Rattle.sift_report.specs.Sheet.{sheet_of}
-use Rattle.sift_line.specs.declared.version.Version.{Version}
+use Rattle.sift_line.specs.declared.line.ReportLine.{ReportLine}
+use Rattle.sift_line.specs.declared.line.Version.{Version}
 use Rattle.sift_report.specs.Told.{HasMarginTold, agreed_told, config_told}
 
--- the sheet of each round flight of a mission whose parts fit has the headline, in each version
+-- this holds of a mission whose parts fit and the sheet of each of its round flights, in each version
+abbrev pub IsPrinted : (MissionData → List ReportLine → Type 0) → Type 0
+IsPrinted Holds = (d : MissionData) (strays : Strays) (fl : Flight) (version : Version) → PartsFit d → IsRound (flown d) strays fl →
+    Holds d (sheet_of (flown d) fl version)
+
+-- the headline does
 abbrev pub HeadlineIsPrinted : Type 0
-HeadlineIsPrinted = (d : MissionData) (strays : Strays) (fl : Flight) (version : Version) → PartsFit d → IsRound (flown d) strays fl →
-    ReportHeadline d (sheet_of (flown d) fl version)
+HeadlineIsPrinted = IsPrinted ReportHeadline
+
+-- and so does what lies cost
+abbrev pub CaughtIsPrinted : Type 0
+CaughtIsPrinted = IsPrinted ReportCaught
 
 -- the sheet tells its flight: a frame has margin by what is told just where it has margin in the flight; the configuration told at a frame is
 -- the one at the frame, where each frame before has margin; and the agreed words told are the flight's, where the frame has margin

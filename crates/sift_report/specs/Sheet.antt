@@ -8,7 +8,7 @@ use Rattle.sift_flight.specs.Flight.{Flight}
 use Rattle.sift_flight.specs.Figures.{config_at, margin_at, next_offsets_at, offsets_at, skew_of, slack_of}
 use Rattle.sift_line.specs.Bad.{bad_in}
 use Rattle.sift_line.specs.Line.{printed}
-use Rattle.sift_line.specs.declared.version.Version.{Version}
+use Rattle.sift_line.specs.declared.line.Version.{Version}
 use Rattle.sift_line.specs.declared.line.ReportLine.{ReportLine}
 use Rattle.sift_line.specs.declared.line.ReportLine.TheVariants.{Unit as unit, Faulty, Idle, Frame, Last}
 

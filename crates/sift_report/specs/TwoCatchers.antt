@@ -2,7 +2,7 @@
 -- catch it, and it is out of the next configuration. The headline holds of it while every frame has margin, and each item of the headline
 -- refuses other lines.
 use Rattle.std.specs.Prelude.{codes, ◌≡◌, ℕ, List, [], ◌∷◌, ◌++◌, slice_set, true, false, None, Some, ℤ, pos}
-use Rattle.sift_base.specs.declared.layout.Layout.{Layout}
+use Rattle.sift_base.specs.declared.slots.Layout.{Layout}
 use Rattle.sift_exec.specs.Conviction.{nobody, noted}
 use Rattle.sift_exec.specs.declared.catches.Kind.TheVariants.{Poll}
 use Rattle.sift_script.specs.Script.{changing}
@@ -14,8 +14,8 @@ use Rattle.sift_flight.specs.Calms.{count_task}
 use Rattle.sift_report.specs.Headline.{HasForm}
 use Rattle.sift_report.specs.Headline.{ReportHeadline, TellsClockSkew, TellsExactRemoval, TellsIdealOutputs, TellsNoFalseAccusation, TellsSameConfiguration, TellsSameInputs, TellsTrueMargin}
 use Rattle.sift_report.specs.Told.{HasMarginTold, config_told, works_in}
-use Rattle.sift_line.specs.declared.bad.Bad.{Bad}
-use Rattle.sift_line.specs.declared.bad.Bad.TheVariants.{ByKind}
+use Rattle.sift_line.specs.declared.catch.Bad.{Bad}
+use Rattle.sift_line.specs.declared.catch.Bad.TheVariants.{ByKind}
 use Rattle.sift_line.specs.declared.line.ReportLine.{ReportLine}
 use Rattle.sift_line.specs.declared.line.ReportLine.TheVariants.{Unit as unit, Faulty, Idle, Frame, Last}
 

@@ -2,7 +2,7 @@
 use Rattle.std.specs.List.{All}
 use Rattle.sift_flight.specs.Flight.{Flight}
 use Rattle.sift_line.specs.Line.{HasVersion}
-use Rattle.sift_line.specs.declared.version.Version.{Version}
+use Rattle.sift_line.specs.declared.line.Version.{Version}
 use Rattle.sift_mission.specs.Data.{FlownMission}
 use Rattle.sift_report.specs.Sheet.{sheet_of}
 

@@ -1,7 +1,7 @@
 //! The ideal machine of a mission, which runs the compiled code of its tasks.
 
 ghost use Rattle.std.specs.Prelude.{◌≡◌, ℕ, ◌+◌, ◌<◌, ◌≤◌, ◌++◌, List, [], IfOk, drop, length, take};
-ghost use Rattle.sift_code.specs.declared.work.TheConstants.{WORK_WORDS};
+ghost use Rattle.sift_code.specs.declared.machine.TheConstants.{WORK_WORDS};
 ghost use Rattle.sift_lang.specs.Meaning.{meaning};
 ghost use Rattle.sift_mission.specs.Parts.{data_of, flown_of};
 ghost use Rattle.sift_pool.specs.Region.{IsLive};

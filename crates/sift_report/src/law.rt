@@ -1,13 +1,14 @@
 //! The laws of the texts: flights that tell the same have one text of each kind, and the headline is printed.
 
+ghost use Rattle.sift_report.specs.FirstLiar.{FirstLiarIsCaught};
 ghost use Rattle.sift_report.specs.OneText.{AlikeFlightsHaveOneText};
-ghost use Rattle.sift_report.specs.Printed.{HeadlineIsPrinted, SheetsTellTheirFlights};
+ghost use Rattle.sift_report.specs.Printed.{CaughtIsPrinted, HeadlineIsPrinted, SheetsTellTheirFlights};
 ghost use Rattle.sift_report.specs.TwoCatchers.{FaultIsWithinTheHeadline};
 ghost use Rattle.sift_report.specs.Versions.{SheetsHaveTheirVersion};
 
 use sift_flight::{
-    calm_missions_fly, headline_holds, margin_is_told, round_flights_have_accounts, skew_is_told,
-    slack_is_told,
+    calm_missions_fly, headline_holds, liars_are_out, margin_is_told, own_words_cost_nothing,
+    round_flights_have_accounts, skew_is_told, slack_is_told,
 };
 use sift_mission::fitting_parts_make_a_flight;
 use sift_table::plain_tables_are_good;
@@ -35,6 +36,21 @@ pub fn the_headline_is_printed()
     slack_is_told();
 }
 
+/// They tell each lie to a working unit; whoever lies to two of them is out of the configuration told next; and they tell nobody
+/// who says its own words.
+pub fn caught_is_printed()
+    ensures { CaughtIsPrinted }
+{
+    fitting_parts_make_a_flight();
+    headline_holds();
+    liars_are_out();
+    own_words_cost_nothing();
+    round_flights_have_accounts();
+    margin_is_told();
+    skew_is_told();
+    slack_is_told();
+}
+
 /// What those lines tell of margins, configurations and agreed words is the flight's.
 pub fn sheets_tell_their_flights()
     ensures { SheetsTellTheirFlights }
@@ -54,3 +70,8 @@ pub fn fault_is_within_the_headline()
     plain_tables_are_good();
     calm_missions_fly();
 }
+
+/// The report of the first liar meets the premises of what lies cost, and tells all of it; other lines don't.
+pub fn first_liar_is_caught()
+    ensures { FirstLiarIsCaught }
+{}

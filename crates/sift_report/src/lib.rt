@@ -11,8 +11,9 @@ mod votes;
 
 pub use ideal::ideal_text;
 pub use law::{
-    alike_flights_have_one_text, fault_is_within_the_headline, sheets_have_their_version,
-    sheets_tell_their_flights, the_headline_is_printed,
+    alike_flights_have_one_text, caught_is_printed, fault_is_within_the_headline,
+    first_liar_is_caught, sheets_have_their_version, sheets_tell_their_flights,
+    the_headline_is_printed,
 };
 pub use report::{last_line_text, report_text};
 pub use sheet::{frame_line, last_line, unit_line};

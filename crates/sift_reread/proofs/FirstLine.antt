@@ -9,7 +9,7 @@ use Rattle.std.proofs.lemmas.List.Sums.{position_or_len_is, sum_by-cons, sum_by_
 use Rattle.sift_line.specs.Line.{IsLine, line_text, printed}
 use Rattle.sift_line.specs.Texts.{LinesComeApart, texts_of}
 use Rattle.sift_line.specs.declared.line.ReportLine.{ReportLine}
-use Rattle.sift_line.specs.declared.version.Version.{Version}
+use Rattle.sift_line.specs.declared.line.Version.{Version}
 use Rattle.sift_reread.specs.Report.{BeginsWithNoLine, IsLineIn, line_feed}
 
 -- a byte is no line feed

@@ -5,7 +5,7 @@ use Rattle.std.proofs.lemmas.List.Elements.{All-nil, All-push}
 use Rattle.std.proofs.lemmas.List.{flat_map_more, length_push, length-append}
 use Rattle.sift_line.specs.Line.{line_text, printed, text_of_lines}
 use Rattle.sift_line.specs.declared.line.ReportLine.{ReportLine}
-use Rattle.sift_line.specs.declared.version.Version.{Version}
+use Rattle.sift_line.specs.declared.line.Version.{Version}
 use Rattle.sift_reread.specs.Report.{BeginsWithNoLine, IsLineIn, StopsIn}
 
 -- the report is what was printed so far, which are so many lines, and the rest

@@ -5,8 +5,8 @@ use Rattle.std.proofs.lemmas.List.Elements.{All-head, All-tail}
 use Rattle.sift_line.specs.Line.{line_text, printed, text_of_lines}
 use Rattle.sift_line.specs.Texts.{LinesComeApart}
 use Rattle.sift_line.specs.declared.line.ReportLine.{ReportLine}
-use Rattle.sift_line.specs.declared.version.Version.{Version}
-use Rattle.sift_line.specs.declared.version.Version.TheVariants.{One, Two}
+use Rattle.sift_line.specs.declared.line.Version.{Version}
+use Rattle.sift_line.specs.declared.line.Version.TheVariants.{One, Two}
 use Rattle.sift_reread.specs.Laws.{ReportsStopNowhere, TextsStopOnce}
 use Rattle.sift_reread.specs.Report.{BeginsWithNoLine, IsLineIn, IsReportIn, StopsIn}
 use Rattle.sift_reread.proofs.FirstLine.{begins, goes_on}

@@ -6,7 +6,7 @@ use Rattle.std.proofs.lemmas.Str.{IsUtf8-append, IsUtf8-from_ascii, IsUtf8-nil}
 use Rattle.sift_line.specs.Line.{line_text, printed, text_of_lines}
 use Rattle.sift_line.specs.Texts.{LinesAreTexts}
 use Rattle.sift_line.specs.declared.line.ReportLine.{ReportLine}
-use Rattle.sift_line.specs.declared.version.Version.{Version}
+use Rattle.sift_line.specs.declared.line.Version.{Version}
 use Rattle.sift_reread.specs.Laws.{ReportsAreTexts}
 use Rattle.sift_reread.specs.Report.{IsLineIn}
 

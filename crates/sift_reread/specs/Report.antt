@@ -3,8 +3,8 @@ use Rattle.std.specs.Prelude.{◌≡◌, ◌≢◌, ◌==◌, ◌+◌, ◌++◌,
 use Rattle.std.specs.List.{All, before_first, position_or_len}
 use Rattle.sift_line.specs.Line.{HasVersion, IsLine, line_text, text_of_lines}
 use Rattle.sift_line.specs.declared.line.ReportLine.{ReportLine}
-use Rattle.sift_line.specs.declared.version.Version.{Version}
-use Rattle.sift_line.specs.declared.version.Version.TheVariants.{One, Two}
+use Rattle.sift_line.specs.declared.line.Version.{Version}
+use Rattle.sift_line.specs.declared.line.Version.TheVariants.{One, Two}
 use Rattle.sift_reread.specs.declared.reread.Stop.{Stop}
 use Rattle.sift_reread.specs.declared.reread.Stop.TheVariants.{NoLine, NoMemory}
 

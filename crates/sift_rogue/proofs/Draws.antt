@@ -4,7 +4,7 @@ use Rattle.std.specs.List.{flat_map}
 use Rattle.sift_base.specs.Draw.{after}
 use Rattle.sift_base.specs.laws.Draws.{after-after}
 use Rattle.sift_buffer.specs.Conduct.{Stray}
-use Rattle.sift_rogue.specs.declared.act.Act.{Act}
+use Rattle.sift_rogue.specs.declared.rogue.Act.{Act}
 use Rattle.sift_rogue.specs.declared.storm.Storm.{Storm}
 use Rattle.sift_rogue.specs.Rogues.{AllowsDrawn, drawn_act}
 use Rattle.sift_rogue.specs.Storms.{Calls, Storms, Answers}

@@ -2,9 +2,9 @@
 use Rattle.std.specs.Prelude.{◌≡◌, ℕ, ◌+◌, ◌*◌, nat_lt, if◌then◌else◌, length, slice_index_or, ⊤}
 use Rattle.sift_base.specs.Draw.{after, draw_at}
 use Rattle.sift_buffer.specs.Cell.{stamp_weight, presence_weight}
-use Rattle.sift_rogue.specs.declared.act.Act.{Act}
-use Rattle.sift_rogue.specs.declared.act.Act.TheVariants.{Stray, Rest}
-use Rattle.sift_rogue.specs.declared.fixed.Fixed.{Fixed}
+use Rattle.sift_rogue.specs.declared.rogue.Act.{Act}
+use Rattle.sift_rogue.specs.declared.rogue.Act.TheVariants.{Stray, Rest}
+use Rattle.sift_rogue.specs.declared.storm.Fixed.{Fixed}
 use Rattle.sift_rogue.specs.declared.storm.Storm.{Storm}
 use Rattle.sift_rogue.specs.Storms.{Call, Started, Answered}
 

@@ -1,12 +1,12 @@
 -- What a storm comes to: the calls of a rogue, and the strays that are stored of its acts.
 use Rattle.std.specs.Prelude.{ℕ, ◌≡◌, ◌+◌, ◌&&◌, not, nat_eq, nat_lt, if◌then◌else◌, List, [], ◌∷◌, ◌++◌, length, Option, Some, None, option_to_list, option_map}
 use Rattle.std.specs.List.{flat_map}
-use Rattle.sift_base.specs.declared.layout.Layout.{Layout}
+use Rattle.sift_base.specs.declared.slots.Layout.{Layout}
 use Rattle.sift_base.specs.Layout.{slot_count}
 use Rattle.sift_buffer.specs.Conduct.{Stray, stray_to}
-use Rattle.sift_rogue.specs.declared.act.Act.{Act}
-use Rattle.sift_rogue.specs.declared.act.Act.TheVariants.{Stray as Strays, Rest}
-use Rattle.sift_rogue.specs.declared.act.Shot.{Shot}
+use Rattle.sift_rogue.specs.declared.rogue.Act.{Act}
+use Rattle.sift_rogue.specs.declared.rogue.Act.TheVariants.{Stray as Strays, Rest}
+use Rattle.sift_rogue.specs.declared.rogue.Shot.{Shot}
 
 -- ---- the calls of a rogue
 

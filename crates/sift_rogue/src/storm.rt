@@ -1,9 +1,22 @@
-//! A rogue that draws its acts.
-ghost use Rattle.sift_rogue.specs.Rogues.{AllowsDrawn};
+//! Rogues: one that draws its acts, one whose acts are fixed, and one that rests.
+ghost use Rattle.sift_rogue.specs.Rogues.{AllowsDrawn, AllowsFixed, AllowsRest};
 
-use crate::act::Act;
-use crate::rogue::Rogue;
+use crate::rogue::{Act, Rogue};
 use sift_base::Draw;
+
+/// As many units as a mission may have: a receiver that isn't there is drawn too, and dropped.
+const UNITS: u64 = 8;
+
+/// As many slots as a layout may have.
+const SLOTS: u64 = 90;
+
+/// How many stamps are drawn from, and how many words there are.
+const NUMBERS: u64 = 1 << 16;
+
+/// What one stamp, and the mark of presence, count in a cell (`sift_buffer::pack`).
+const STAMP: u64 = 1 << 17;
+
+const PRESENT: u64 = 1 << 16;
 
 /// A rogue that draws the receiver, slot and cell of each stray, from the number with which it is started.
 #[derive(Drop)]
@@ -19,12 +32,48 @@ impl Rogue for Storm {
     }
 
     fn next(&mut self) -> Act {
-        let to = self.drawer.draw(8) as u8;
-        let slot = self.drawer.draw(90) as u16;
-        let stamp = self.drawer.draw(65536);
+        let to = self.drawer.draw(UNITS) as u8;
+        let slot = self.drawer.draw(SLOTS) as u16;
+        let stamp = self.drawer.draw(NUMBERS);
         let presence = self.drawer.draw(2);
-        let word = self.drawer.draw(65536);
-        let cell = stamp * 131072 + presence * 65536 + word;
+        let word = self.drawer.draw(NUMBERS);
+        let cell = stamp * STAMP + presence * PRESENT + word;
         Act::Stray { to, slot, cell }
+    }
+}
+
+/// A rogue that gives these acts in their order, from the one at `at` on, and then rests.
+#[derive(Drop)]
+pub struct Fixed {
+    pub acts: Vec<Act>,
+    pub at: usize,
+}
+
+impl Rogue for Fixed {
+    ghost allows = { AllowsFixed };
+
+    fn start(&mut self, _number: u64) {}
+
+    fn next(&mut self) -> Act {
+        if self.at < self.acts.len() {
+            let act = self.acts[self.at];
+            self.at += 1;
+            return act;
+        }
+        Act::Rest
+    }
+}
+
+/// A rogue that always rests.
+#[derive(Drop)]
+pub struct Silent;
+
+impl Rogue for Silent {
+    ghost allows = { λ before call after. AllowsRest call };
+
+    fn start(&mut self, _number: u64) {}
+
+    fn next(&mut self) -> Act {
+        Act::Rest
     }
 }

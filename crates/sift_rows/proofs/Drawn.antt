@@ -2,7 +2,7 @@
 use Rattle.std.proofs.Common.{◌≡◌, ◌^◌, ◌-◌, [], ◌∷◌, refl}
 use Rattle.sift_base.specs.Draw.{after}
 use Rattle.sift_rogue.specs.DrawnStorms.{drawn_acts}
-use Rattle.sift_rogue.specs.declared.act.Act.TheVariants.{Stray}
+use Rattle.sift_rogue.specs.declared.rogue.Act.TheVariants.{Stray}
 
 -- the first two acts of a storm, the second first: receiver, slot, and the cell of stamp, presence and word
 of_zero : drawn_acts 0 2 ≡ Stray 3 44 6300791963 ∷ Stray 7 84 2015536749 ∷ []

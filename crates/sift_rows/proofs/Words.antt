@@ -3,8 +3,8 @@ use Rattle.std.proofs.Common.{◌≡◌, pos, ◌-ℤ◌, [], ◌∷◌, refl, m
 use Rattle.sift_base.specs.Draw.{after, draw_at}
 use Rattle.sift_base.specs.Layout.{slot_count, slot_number}
 use Rattle.sift_base.specs.Word.{signed_of}
-use Rattle.sift_base.specs.declared.layout.Layout.{Layout}
-use Rattle.sift_base.specs.declared.slot.Slot.TheVariants.{Clock, Sense, RelaySense, Out, Report, RelayReport}
+use Rattle.sift_base.specs.declared.slots.Layout.{Layout}
+use Rattle.sift_base.specs.declared.slots.Slot.TheVariants.{Clock, Sense, RelaySense, Out, Report, RelayReport}
 
 -- the upper half is negative
 signed_words : map signed_of (0 ∷ 32767 ∷ 32768 ∷ 65535 ∷ []) ≡ pos 0 ∷ pos 32767 ∷ (pos 0 -ℤ pos 32768) ∷ (pos 0 -ℤ pos 1) ∷ []

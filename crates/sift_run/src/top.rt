@@ -8,7 +8,7 @@ ghost use Rattle.sift_mission.specs.Parts.{data_of};
 ghost use Rattle.sift_reply.specs.Reply.{no_memory_status};
 ghost use Rattle.sift_reply.specs.Promise.{AskForNoInput, IsAnswered, IsCertain};
 ghost use Rattle.sift_commands.specs.Command.{commands};
-ghost use Rattle.sift_commands.specs.Headline.{IsHeadlineWritten};
+ghost use Rattle.sift_commands.specs.Headline.{IsCaughtWritten, IsHeadlineWritten};
 
 use crate::flying::tell;
 use sift_alone::{Fleet, sift_by};
@@ -48,6 +48,9 @@ pub fn sift<S: Source, K: Sink, R: Rogue + Send, P: Probe + Sync, H: Threads + W
         (record { before = S.inflow source.old; after = S.inflow source.new })
         (record { before = K.outflow sink.old; after = K.outflow sink.new }) result }
     ensures headline { IsHeadlineWritten (AreGiven R.allows rogues.items) (map string_bytes words.now)
+        (record { before = S.inflow source.old; after = S.inflow source.new })
+        (record { before = K.outflow sink.old; after = K.outflow sink.new }) result }
+    ensures caught { IsCaughtWritten (AreGiven R.allows rogues.items) (map string_bytes words.now)
         (record { before = S.inflow source.old; after = S.inflow source.new })
         (record { before = K.outflow sink.old; after = K.outflow sink.new }) result }
 

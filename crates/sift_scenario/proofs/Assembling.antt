@@ -6,7 +6,7 @@ use Rattle.sift_base.specs.declared.stop.Stop.TheVariants as stop
 use Rattle.std.proofs.lemmas.List.{length-map}
 use Rattle.toml.specs.Data.{Members}
 use Rattle.sift_base.specs.Shapes.{AllShapes}
-use Rattle.sift_base.specs.declared.layout.Layout.{Layout}
+use Rattle.sift_base.specs.declared.slots.Layout.{Layout}
 use Rattle.sift_program.specs.Program.{program_of, program_shapes}
 use Rattle.sift_script.specs.Script.{FaultScript, outputs_of, script_for}
 use Rattle.sift_table.specs.Schedule.{Schedule, schedule_of}
@@ -20,8 +20,8 @@ use Rattle.sift_scenario.specs.Task.{tasks_of}
 use Rattle.sift_scenario.specs.Testing.{RefusesScript, RefusesTable}
 use Rattle.sift_scenario.specs.declared.document.Entries.{Entries}
 use Rattle.sift_scenario.specs.declared.program.Running.{Running}
-use Rattle.sift_scenario.specs.declared.refused.Refused.{Refused}
-use Rattle.sift_scenario.specs.declared.refused.Refused.TheVariants.{Scenario, Task, Table, Script}
+use Rattle.sift_scenario.specs.declared.mission.Refused.{Refused}
+use Rattle.sift_scenario.specs.declared.mission.Refused.TheVariants.{Scenario, Task, Table, Script}
 
 -- the data of entries, their program, and a layout, tables and a script
 abbrev pub made : Entries → Running → Layout → List Schedule → FaultScript → MissionData

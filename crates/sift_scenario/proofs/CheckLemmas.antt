@@ -8,8 +8,8 @@ use Rattle.sift_table.specs.Rules.{IsGood}
 use Rattle.sift_table.specs.Schedule.{Schedule}
 use Rattle.sift_document.specs.laws.Places.{holds_here}
 use Rattle.sift_scenario.specs.Testing.{IsBadTable, RefusesTable}
-use Rattle.sift_scenario.specs.declared.refused.Refused.{Refused}
-use Rattle.sift_scenario.specs.declared.refused.Refused.TheVariants.{Scenario, Task, Table, Script}
+use Rattle.sift_scenario.specs.declared.mission.Refused.{Refused}
+use Rattle.sift_scenario.specs.declared.mission.Refused.TheVariants.{Scenario, Task, Table, Script}
 
 -- the tables before a place are good, and the one there isn't
 pub first_bad :

@@ -15,8 +15,8 @@ use Rattle.sift_document.specs.laws.Places.{matches_more}
 use Rattle.sift_script.proofs.lemmas.Answered.{scripts_are_answered}
 use Rattle.sift_table.proofs.lemmas.Answered.{tables_are_answered}
 use Rattle.sift_compile.specs.Length.{code_limit, task_length, task_steps}
-use Rattle.sift_parse.specs.declared.stop.ParseStop.{ParseStop}
-use Rattle.sift_parse.specs.declared.stop.ParseStop.TheVariants as parse
+use Rattle.sift_parse.specs.declared.task.ParseStop.{ParseStop}
+use Rattle.sift_parse.specs.declared.task.ParseStop.TheVariants as parse
 use Rattle.sift_parse.specs.Answer as texts
 use Rattle.sift_parse.specs.Roll.{Roll, first_word}
 use Rattle.sift_parse.specs.Outcome.{linear_tree}
@@ -31,8 +31,8 @@ use Rattle.sift_scenario.specs.Refusal.{IsFirstRefused, IsNoTask, IsOver, refusa
 use Rattle.sift_scenario.specs.Root.{frames_of, period_of, units_of}
 use Rattle.sift_scenario.specs.Sensor.{sensor_names}
 use Rattle.sift_scenario.specs.Task.{AreForms, Form, HasForm, linear, tasks_of, text, task_rules}
-use Rattle.sift_scenario.specs.declared.refused.Refused.{Refused}
-use Rattle.sift_scenario.specs.declared.refused.Refused.TheVariants.{Scenario, Task, Table, Script}
+use Rattle.sift_scenario.specs.declared.mission.Refused.{Refused}
+use Rattle.sift_scenario.specs.declared.mission.Refused.TheVariants.{Scenario, Task, Table, Script}
 use Rattle.sift_scenario.specs.Refusal.{IsFirstBadTable, IsRefusedWith}
 use Rattle.sift_scenario.proofs.Codes.{allowed_more}
 use Rattle.sift_scenario.proofs.FirstBroken.{kept_or_broken}

@@ -9,7 +9,7 @@ use Rattle.sift_base.specs.declared.stop.Stop.{Stop}
 use Rattle.sift_base.specs.Layout.{IsLayout, least_units}
 use Rattle.sift_base.specs.Shapes.{AllShapes}
 use Rattle.sift_base.specs.Units.{unit_limit}
-use Rattle.sift_base.specs.declared.layout.Layout.{Layout}
+use Rattle.sift_base.specs.declared.slots.Layout.{Layout}
 use Rattle.sift_script.specs.Rules as scripts
 use Rattle.sift_script.specs.Script.{FaultScript}
 use Rattle.sift_table.specs.Rules.{IsGood}
@@ -25,7 +25,7 @@ use Rattle.sift_scenario.specs.Sensor.{sensor_names}
 use Rattle.sift_scenario.specs.Testing.{RefusesScript, RefusesTable}
 use Rattle.sift_scenario.specs.declared.document.Entries.{Entries}
 use Rattle.sift_scenario.specs.declared.program.Running.{Running}
-use Rattle.sift_scenario.specs.declared.refused.Refused.{Refused}
+use Rattle.sift_scenario.specs.declared.mission.Refused.{Refused}
 use Rattle.sift_scenario.proofs.Assembling.{is_stated, layout_read, made, script_read, script_refused, table_refused}
 use Rattle.sift_scenario.proofs.Fitting.{fit}
 use Rattle.sift_scenario.proofs.Sensing.{as_many_sensors, few_sensors}

@@ -11,7 +11,7 @@ use Rattle.sift_sections.specs.Table.{table_rules}
 use Rattle.sift_sections.specs.laws.Named.{later_table_rules}
 use Rattle.sift_scenario.specs.Program.{IsTreeOf, roll_for, turn_of}
 use Rattle.sift_scenario.specs.Refusal.{IsFirstRefused}
-use Rattle.sift_scenario.specs.declared.refused.Refused.{Refused}
+use Rattle.sift_scenario.specs.declared.mission.Refused.{Refused}
 use Rattle.sift_scenario.specs.Root.{root_rules, version_of}
 use Rattle.sift_scenario.specs.Sensor.{sensor_rules}
 use Rattle.sift_scenario.specs.Task.{AreForms, Form, HasForm, start_words, task_rules}

@@ -21,9 +21,9 @@ use Rattle.sift_scenario.specs.Task.{counts_of, task_entries, tasks_of, task_rul
 use Rattle.sift_scenario.specs.Testing.{AreTurns, form_of}
 use Rattle.sift_scenario.specs.declared.document.Entries.{Entries}
 use Rattle.sift_scenario.specs.declared.program.Running.{Running}
-use Rattle.sift_scenario.specs.declared.task.Tasks.{Tasks}
+use Rattle.sift_scenario.specs.declared.entries.Tasks.{Tasks}
 use Rattle.sift_scenario.proofs.Named.{all_starts, AreTreesOf}
-use Rattle.sift_scenario.specs.declared.refused.Refused.{Refused}
+use Rattle.sift_scenario.specs.declared.mission.Refused.{Refused}
 
 -- there are as many forms as entries of `task`
 pub count_is : (document : Members) (tasks : Tasks) → AreTasksOf document tasks → length tasks.forms.items ≡ length (task_entries document)

@@ -6,18 +6,18 @@ use Rattle.sift_base.specs.declared.stop.Stop.TheVariants as stop
 use Rattle.toml.specs.Data.{Members}
 use Rattle.sift_lang.specs.Tree.{TaskTree}
 use Rattle.sift_parse.specs.Roll.{Roll}
-use Rattle.sift_parse.specs.declared.stop.ParseStop.{ParseStop}
-use Rattle.sift_parse.specs.declared.stop.ParseStop.TheVariants as parse
+use Rattle.sift_parse.specs.declared.task.ParseStop.{ParseStop}
+use Rattle.sift_parse.specs.declared.task.ParseStop.TheVariants as parse
 use Rattle.sift_document.specs.Testing.{RefusesFirst}
-use Rattle.sift_document.specs.declared.rule.BrokenRule.{BrokenRule}
+use Rattle.sift_document.specs.declared.entries.BrokenRule.{BrokenRule}
 use Rattle.sift_scenario.specs.Mission.{IsLawful, rules_of}
 use Rattle.sift_scenario.specs.Refusal.{IsFormRefused, IsOver, IsRefusedWith, refusal_of}
 use Rattle.sift_scenario.proofs.Named.{TasksAreRefused}
 use Rattle.sift_scenario.specs.Sensor.{sensor_names}
 use Rattle.sift_scenario.specs.Task.{Form, tasks_of}
 use Rattle.sift_scenario.specs.Testing.{rule_refusal_of}
-use Rattle.sift_scenario.specs.declared.refused.Refused.{Refused}
-use Rattle.sift_scenario.specs.declared.refused.Refused.TheVariants.{Scenario, Task, Table, Script}
+use Rattle.sift_scenario.specs.declared.mission.Refused.{Refused}
+use Rattle.sift_scenario.specs.declared.mission.Refused.TheVariants.{Scenario, Task, Table, Script}
 
 -- the refusal is none of a task
 abbrev IsOther : Refused → Type 0

@@ -6,7 +6,7 @@ use Rattle.toml.specs.Data.{Data, Members}
 use Rattle.sift_base.specs.Shapes.{task_limit}
 use Rattle.sift_document.specs.Rules.{HoldsOf}
 use Rattle.sift_document.specs.Testing.{RefusesBy, Tests}
-use Rattle.sift_document.specs.declared.rule.BrokenRule.{BrokenRule}
+use Rattle.sift_document.specs.declared.entries.BrokenRule.{BrokenRule}
 use Rattle.sift_scenario.proofs.Testing.{keeps_tasks}
 use Rattle.sift_document.specs.Document.{IsTableOf}
 use Rattle.sift_scenario.proofs.Named.{task_keys}

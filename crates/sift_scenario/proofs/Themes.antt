@@ -4,7 +4,7 @@ use Rattle.std.specs.Prelude.{unwrap_or}
 use Rattle.toml.specs.Data.{Members}
 use Rattle.sift_base.specs.declared.stop.Stop.{Stop}
 use Rattle.sift_document.specs.Testing.{RefusesFirst}
-use Rattle.sift_document.specs.declared.rule.BrokenRule.{BrokenRule}
+use Rattle.sift_document.specs.declared.entries.BrokenRule.{BrokenRule}
 use Rattle.sift_document.specs.laws.Order.{AreAllKept, StopsIn, kept_each, kept_joined, stopped_in}
 use Rattle.sift_scenario.specs.Mission.{IsLawful, rules_of}
 use Rattle.sift_scenario.specs.Root.{root_rules, units_of, version_of}

@@ -3,12 +3,12 @@ use Rattle.std.proofs.Common.{◌≡◌, ℕ, List, length, Some, inl, inr, refl
 use Rattle.std.specs.List.{slice_get}
 use Rattle.sift_lang.specs.Tree.{TaskTree}
 use Rattle.sift_parse.specs.Roll.{Roll, roll_of}
-use Rattle.sift_parse.specs.declared.names.Names.{Names}
+use Rattle.sift_parse.specs.declared.task.Names.{Names}
 use Rattle.sift_document.specs.Rules.{EachMatches}
 use Rattle.sift_scenario.specs.Program.{AreAllowed, IsTreeOf, steps_left, turn_of}
 use Rattle.sift_scenario.specs.Refusal.{IsFirstRefused, IsNoTask, IsOver}
 use Rattle.sift_scenario.specs.Task.{Form}
-use Rattle.sift_scenario.specs.declared.refused.Refused.{Refused}
+use Rattle.sift_scenario.specs.declared.mission.Refused.{Refused}
 
 -- names that differ in the turn alone are the same at a task's turn
 pub same_turn :

@@ -22,15 +22,15 @@ use Rattle.sift_parse.specs.Roll.{Roll}
 use Rattle.sift_parse.proofs.lemmas.OneAnswer.{one_answer}
 use Rattle.sift_mission.specs.Data.{MissionData, shapes_in}
 use Rattle.sift_mission.specs.Parts.{data_of}
-use Rattle.sift_mission.specs.declared.parts.MissionParts.{MissionParts}
+use Rattle.sift_mission.specs.declared.mission.MissionParts.{MissionParts}
 use Rattle.sift_scenario.specs.Mission.{rules_of, HasGoodTables, IsMission, IsStated}
 use Rattle.sift_scenario.specs.Laws.{MissionsAreAccepted, OneRefusal}
 use Rattle.sift_scenario.specs.Program.{roll_for, steps_left, turn_of}
 use Rattle.sift_scenario.specs.Refusal.{IsFirstBadTable, IsFirstRefused, IsFormRefused, IsNoTask, IsOver, IsRefusedWith, refusal_of}
 use Rattle.sift_scenario.specs.Sensor.{sensor_names}
 use Rattle.sift_scenario.specs.Task.{Form, text, tasks_of}
-use Rattle.sift_scenario.specs.declared.refused.Refused.{Refused}
-use Rattle.sift_scenario.specs.declared.refused.Refused.TheVariants.{Scenario, Task, Table, Script}
+use Rattle.sift_scenario.specs.declared.mission.Refused.{Refused}
+use Rattle.sift_scenario.specs.declared.mission.Refused.TheVariants.{Scenario, Task, Table, Script}
 use Rattle.sift_scenario.proofs.Named.{TasksAreRefused}
 use Rattle.sift_scenario.proofs.OneMission.{one_stated}
 use Rattle.sift_scenario.proofs.UniqueForms.{one_forms, one_tree}

@@ -9,14 +9,14 @@ use Rattle.sift_lang.specs.Tree.{TaskTree, end}
 use Rattle.sift_parse.proofs.lemmas.OneAnswer.{task_is_answered}
 use Rattle.sift_parse.specs.Outcome.{IsTaskOf, Tells}
 use Rattle.sift_parse.specs.Roll.{Roll}
-use Rattle.sift_parse.specs.declared.stop.ParseStop.{ParseStop}
-use Rattle.sift_parse.specs.declared.stop.ParseStop.TheVariants as parse
+use Rattle.sift_parse.specs.declared.task.ParseStop.{ParseStop}
+use Rattle.sift_parse.specs.declared.task.ParseStop.TheVariants as parse
 use Rattle.sift_document.specs.Rules.{EachMatches}
 use Rattle.sift_scenario.proofs.UniqueForms.{one_tree, same_entries}
 use Rattle.sift_scenario.specs.Program.{AreAllowed, IsTreeOf, steps_left, turn_of}
 use Rattle.sift_scenario.specs.Refusal.{IsFirstRefused, IsFormRefused, IsNoTask, IsOver, refusal_of}
 use Rattle.sift_scenario.specs.Task.{Form}
-use Rattle.sift_scenario.specs.declared.refused.Refused.{Refused}
+use Rattle.sift_scenario.specs.declared.mission.Refused.{Refused}
 
 -- a text that is a task isn't refused
 task_unrefused : (roll : Roll) (bytes : List ℕ) (tree : TaskTree) (parsed : ParseStop) → parsed ≢ parse.NoMemory → IsTaskOf roll bytes tree → Tells roll bytes (Err parsed) → ⊥

@@ -4,7 +4,7 @@ use Rattle.std.specs.List.{All}
 use Rattle.toml.specs.Data.{Members, get_member}
 use Rattle.sift_document.specs.Document.{tables_in}
 use Rattle.sift_document.specs.Rules.{BreaksFirst, HoldsOf}
-use Rattle.sift_scenario.specs.declared.refused.Refused.{Refused}
+use Rattle.sift_scenario.specs.declared.mission.Refused.{Refused}
 use Rattle.sift_sections.specs.Fault.{from_of, stated_storm, unit_of}
 use Rattle.sift_scenario.specs.Mission.{rules_of, IsLawful, IsMission}
 use Rattle.sift_scenario.specs.Refusal.{IsRefusedWith}

@@ -10,8 +10,8 @@ use Rattle.sift_table.specs.Schedule.{schedule_of}
 use Rattle.sift_mission.specs.Parts as unit
 use Rattle.sift_scenario.specs.declared.document.Entries.{Entries}
 use Rattle.sift_scenario.specs.declared.program.Running.{Running}
-use Rattle.sift_scenario.specs.declared.sensor.Sensors.{Sensors}
-use Rattle.sift_scenario.specs.declared.task.Tasks.{Tasks}
+use Rattle.sift_scenario.specs.declared.entries.Sensors.{Sensors}
+use Rattle.sift_scenario.specs.declared.entries.Tasks.{Tasks}
 use Rattle.sift_sections.specs.Clock.{clocks_in}
 use Rattle.sift_sections.specs.Fault.{fault_in}
 use Rattle.sift_scenario.specs.Mission.{IsLawful}

@@ -5,8 +5,8 @@ use Rattle.sift_base.specs.Shapes.{AllShapes}
 use Rattle.sift_base.specs.declared.stop.Stop.{Stop}
 use Rattle.sift_base.specs.declared.stop.Stop.TheVariants as stop
 use Rattle.sift_base.specs.Stop.{IfRefused}
-use Rattle.sift_compile.specs.declared.stop.CompileStop.{CompileStop}
-use Rattle.sift_compile.specs.declared.stop.CompileStop.TheVariants as compile
+use Rattle.sift_compile.specs.declared.compiler.CompileStop.{CompileStop}
+use Rattle.sift_compile.specs.declared.compiler.CompileStop.TheVariants as compile
 use Rattle.sift_lang.specs.Tree.{TaskTree}
 use Rattle.sift_parse.specs.Outcome.{AreNames}
 use Rattle.sift_parse.specs.Roll.{Roll}
@@ -15,11 +15,11 @@ use Rattle.sift_script.specs.Script.{FaultScript}
 use Rattle.sift_table.specs.Rules as tables
 use Rattle.sift_table.specs.Schedule.{Schedule}
 use Rattle.sift_document.specs.Document.{word_array}
-use Rattle.sift_document.specs.declared.rule.BrokenRule.{BrokenRule}
-use Rattle.sift_scenario.specs.declared.refused.Refused.{Refused}
-use Rattle.sift_scenario.specs.declared.refused.Refused.TheVariants.{Scenario, Task, Table, Script}
-use Rattle.sift_scenario.specs.declared.task.Form as held
-use Rattle.sift_scenario.specs.declared.task.Form.TheVariants as variant
+use Rattle.sift_document.specs.declared.entries.BrokenRule.{BrokenRule}
+use Rattle.sift_scenario.specs.declared.mission.Refused.{Refused}
+use Rattle.sift_scenario.specs.declared.mission.Refused.TheVariants.{Scenario, Task, Table, Script}
+use Rattle.sift_scenario.specs.declared.entries.Form as held
+use Rattle.sift_scenario.specs.declared.entries.Form.TheVariants as variant
 use Rattle.sift_scenario.specs.Program.{turn_of}
 use Rattle.sift_scenario.specs.Refusal.{IsFirstBadTable, IsOver}
 use Rattle.sift_scenario.specs.Task.{Form, linear, text}

@@ -5,21 +5,13 @@
 //! Else the first table that isn't good is refused, and else the script of faults, where it isn't.
 #![tactic(auto)]
 
-mod checked;
 mod document;
 mod entries;
-mod law;
 mod mission;
 mod program;
-mod refused;
-mod root;
-mod sensor;
-mod task;
-mod tree;
 
-pub use law::{
-    missions_are_accepted, no_document_is_unanswered, one_mission, one_refusal,
-    rules_are_kept_or_broken, stated_missions_fit, storms_are_stated, version_one_sheds_nothing,
+pub use mission::{
+    Refused, mission_of, missions_are_accepted, no_document_is_unanswered, one_mission,
+    one_refusal, rules_are_kept_or_broken, stated_missions_fit, storms_are_stated,
+    version_one_sheds_nothing,
 };
-pub use mission::mission_of;
-pub use refused::Refused;

@@ -3,8 +3,8 @@ use Rattle.std.proofs.Common.{◌≡◌, ℕ, zero, suc, ◌+◌, sum, List, [],
 use Rattle.std.proofs.lemmas.Bool.{false≢true}
 use Rattle.std.proofs.lemmas.List.Sums.{sum_by-cons}
 use Rattle.sift_base.specs.Shapes.{Shape, words_in}
-use Rattle.sift_base.specs.declared.slot.Slot.{Slot}
-use Rattle.sift_base.specs.declared.slot.Slot.TheVariants.{Clock, Sense, RelaySense, Out, Report, RelayReport}
+use Rattle.sift_base.specs.declared.slots.Slot.{Slot}
+use Rattle.sift_base.specs.declared.slots.Slot.TheVariants.{Clock, Sense, RelaySense, Out, Report, RelayReport}
 use Rattle.sift_script.specs.Faults.{is_same_slot}
 use Rattle.sift_script.specs.Laws.{SlotsAreComparedWhole, WordsAreNumberedAlike}
 

@@ -3,7 +3,7 @@ use Rattle.std.proofs.Common.{◌≡◌, ℕ, zero, suc, List, [], ◌∷◌, ma
 use Rattle.std.proofs.lemmas.List.{get_or-map, length-map, take_more}
 use Rattle.std.proofs.lemmas.Bool.{false≢true}
 use Rattle.sift_base.specs.Shapes.{Shape, shape_of}
-use Rattle.sift_base.specs.declared.shapes.TaskShape.{TaskShape}
+use Rattle.sift_base.specs.declared.slots.TaskShape.{TaskShape}
 use Rattle.std.specs.List.{All}
 use Rattle.sift_script.specs.Faults.{changes_in}
 use Rattle.sift_script.specs.Rules.{fault_at, units_named}

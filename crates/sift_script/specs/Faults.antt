@@ -3,8 +3,8 @@ use Rattle.std.specs.Prelude.{ℕ, List, Option, Some, None, Bool, false, ◌&&�
 use Rattle.std.specs.List.{find, list_any}
 use Rattle.std.specs.Option.{option_and_then, option_map, option_map_or}
 use Rattle.sift_base.specs.Units.{has}
-use Rattle.sift_base.specs.declared.slot.Slot.{Slot}
-use Rattle.sift_base.specs.declared.slot.Slot.TheVariants as slot
+use Rattle.sift_base.specs.declared.slots.Slot.{Slot}
+use Rattle.sift_base.specs.declared.slots.Slot.TheVariants as slot
 use Rattle.sift_script.specs.Script.{Failing, Fault, changing, turning, Change, FaultScript}
 use Rattle.sift_script.specs.declared.script.SlotKind.{SlotKind}
 use Rattle.sift_script.specs.declared.script.SlotKind.TheVariants.{Clock, Sense, Relay, Out, Report, RelayReport}

@@ -1,7 +1,7 @@
 -- What holds of fault scripts.
 use Rattle.std.specs.Prelude.{◌≡◌, ℕ, ◌<◌, ◌≤◌, ◌↔◌, ◌⊎◌, List, Some, None, true, false, sum, take}
 use Rattle.sift_base.specs.Shapes.{AllShapes, first_word}
-use Rattle.sift_base.specs.declared.slot.Slot.{Slot}
+use Rattle.sift_base.specs.declared.slots.Slot.{Slot}
 use Rattle.sift_script.specs.Faults.{is_same_slot, override_of, has_turned, storm_of, works}
 use Rattle.sift_script.specs.Rules.{IsFirstBroken, IsGood}
 use Rattle.sift_script.specs.Script.{Fault, FaultScript, outputs_of}

@@ -2,7 +2,7 @@
 use Rattle.std.specs.Prelude.{ℕ, ◌≡◌, ◌+◌, ◌≤◌, List, length, map, sum, take}
 use Rattle.std.specs.List.{range_with_len}
 use Rattle.sift_script.specs.Script.{FaultScript, faults_of}
-use Rattle.sift_script.specs.declared.parts.Parts.{Parts}
+use Rattle.sift_script.specs.declared.script.Parts.{Parts}
 
 -- a script, with what it is for
 abbrev pub script_of : Parts → FaultScript

@@ -1,7 +1,7 @@
 -- A fault script as contracts see it: which units fail, from which frame on, and how.
 use Rattle.std.specs.Prelude.{ℕ, List, Option, map}
 use Rattle.sift_base.specs.Shapes.{AllShapes}
-use Rattle.sift_base.specs.declared.layout.Layout.{Layout}
+use Rattle.sift_base.specs.declared.slots.Layout.{Layout}
 use Rattle.sift_script.specs.declared.script.Entry.{Entry}
 use Rattle.sift_script.specs.declared.script.Item.{Item}
 use Rattle.sift_script.specs.declared.script.Plan.{Plan}

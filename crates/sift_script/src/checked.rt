@@ -1,4 +1,4 @@
-//! Scripts that were checked.
+//! Scripts that were checked, and what holds of each.
 
 ghost use Rattle.std.specs.Prelude.{◌≡◌, ◌<◌, length, IfOk, IfErr, IfSome, IfNone};
 ghost use Rattle.sift_base.specs.Layout.{IsLayout};
@@ -8,10 +8,10 @@ ghost use Rattle.sift_script.specs.Script.{script_for};
 ghost use Rattle.sift_script.specs.Faults.{override_of, works, storm_of};
 ghost use Rattle.sift_script.specs.Rules.{IsGood, IsFirstBroken, entry_rules};
 ghost use Rattle.sift_script.specs.Parts.{script_of};
+ghost use Rattle.sift_script.specs.Laws.{OneUnitIsSteady, FaultsAreForGood, WorkingUnitsSayTheirWords, WorkingUnitsHaveNotTurned, StormsComeInTheMission, OneBrokenRule, SlotsAreComparedWhole, WordsAreNumberedAlike, ScriptsAreAnswered};
 
-use crate::parts::{Parts, first_words};
 use crate::rules;
-use crate::script::{Plan, Script, StormEntry, items_of};
+use crate::script::{Parts, Plan, Script, StormEntry, first_words, items_of};
 use arrayvec::ArrayVec;
 use sift_base::{Layout, Shapes, Slot, UnitId, Word};
 use std::marker::Model;
@@ -142,3 +142,50 @@ fn broken_rule(parts: &Parts, at: usize) -> Option<u8>
     }
     None
 }
+
+// ---- laws
+
+/// A good script leaves a unit that never fails.
+pub fn one_unit_is_steady()
+    ensures { OneUnitIsSteady }
+{}
+
+/// A unit that has failed stays faulty.
+pub fn faults_are_for_good()
+    ensures { FaultsAreForGood }
+{}
+
+/// Nothing is replaced of what a working unit says.
+pub fn working_units_say_their_words()
+    ensures { WorkingUnitsSayTheirWords }
+{}
+
+/// Only a faulty unit turns stray.
+pub fn working_units_have_not_turned()
+    ensures { WorkingUnitsHaveNotTurned }
+{}
+
+/// A good script has no storm that comes after the mission's end.
+pub fn storms_come_in_the_mission()
+    ensures { StormsComeInTheMission }
+{}
+
+/// An item is about the one slot that it stands for.
+pub fn slots_are_compared_whole()
+    ensures { SlotsAreComparedWhole }
+{}
+
+/// The word that an item speaks of has the number that it has in a mission of these tasks.
+pub fn words_are_numbered_alike()
+    ensures { WordsAreNumberedAlike }
+{}
+
+/// A script is refused in at most one way, and never if it meets all rules.
+pub fn one_broken_rule()
+    ensures { OneBrokenRule }
+{}
+
+/// A script that doesn't meet all rules has a first broken one: no script is left without an answer.
+pub fn scripts_are_answered()
+    ensures { ScriptsAreAnswered }
+{}

@@ -4,12 +4,10 @@ ghost use Rattle.std.specs.Prelude.{◌≡◌, ◌<◌, ◌≤◌, ◌↔◌, le
 ghost use Rattle.std.specs.List.{All};
 ghost use Rattle.sift_base.specs.Units.{has};
 ghost use Rattle.sift_script.specs.Script.{change_of};
-ghost use Rattle.sift_script.specs.Rules.{HasUnit, HasNewUnit, FailsInMission, LeavesAUnit, HasPlaceBy};
-ghost use Rattle.sift_script.specs.Rules.{IsThere, HasPlaces, AreReceivers, HasReceivers};
+ghost use Rattle.sift_script.specs.Rules.{HasUnit, HasNewUnit, FailsInMission, LeavesAUnit, HasPlaceBy, IsThere, HasPlaces, AreReceivers, HasReceivers};
 ghost use Rattle.sift_script.specs.Parts.{script_of};
 
-use crate::parts::Parts;
-use crate::script::{Entry, Item, SlotKind, items_of};
+use crate::script::{Entry, Item, Parts, SlotKind, items_of};
 use sift_base::is_ascending;
 
 /// Whether an entry's unit is one of the mission's.

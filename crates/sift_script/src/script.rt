@@ -1,10 +1,17 @@
-//! Fault scripts as they are written.
+//! Fault scripts as they are written, and what a script is for: the mission's layout, its tasks' output words and its
+//! frames.
 
-ghost use Rattle.std.specs.Prelude.{◌≡◌, map};
-ghost use Rattle.sift_script.specs.Script.{change_of, failing_of};
-ghost use Rattle.sift_script.specs.Faults.{changes_in};
+ghost use Rattle.std.specs.Prelude.{◌≡◌, map, ℕ, List, ◌≤◌, length, not, sum, take};
+ghost use Rattle.sift_script.specs.Script.{change_of, failing_of, script_for, fault_of};
+ghost use Rattle.sift_script.specs.Faults.{changes_in, slot_by, is_same_slot, fits, replacement_by, fault_of_unit, works};
+ghost use Rattle.std.specs.Option.{option_map};
+ghost use Rattle.sift_base.specs.Shapes.{shapes_of, AreShapes};
+ghost use Rattle.sift_script.specs.Parts.{script_of, AreFirstWords};
 
-use sift_base::Word;
+use arrayvec::ArrayVec;
+use sift_base::{Layout, Shapes, Slot, UnitId, Word};
+
+// ---- scripts
 
 /// Which units fail, and how: an entry for each of them.
 #[derive(Drop)]
@@ -91,4 +98,130 @@ pub(crate) fn items_of(plan: &Plan) -> &[Item]
         Plan::Say(items) => items,
         Plan::Storm { .. } => &[],
     }
+}
+
+// ---- what a script is for
+
+/// A script with what it is for.
+#[derive(Drop)]
+pub struct Parts {
+    /// The script.
+    pub script: Script,
+    /// How many units, sensors and words the mission has.
+    pub layout: Layout,
+    /// How many output words each task has.
+    pub outputs: ArrayVec<u8, 24>,
+    /// How many frames the mission has.
+    pub frames: u32,
+}
+
+impl Parts {
+    /// A script for a mission of this layout, with tasks of these shapes and so many frames.
+    pub fn of(script: Script, layout: Layout, shapes: &Shapes, frames: u32) -> Parts
+        requires { AreShapes (shapes_of shapes.now) }
+        ensures { script_of result ≡ script_for script layout (shapes_of shapes.now) frames }
+    {
+        let mut outputs = ArrayVec::new();
+        for task in &shapes.tasks {
+            outputs.push(task.outputs);
+        }
+        Parts {
+            script,
+            layout,
+            outputs,
+            frames,
+        }
+    }
+
+    /// Whether a unit is faulty in frame f.
+    pub fn is_faulty(&self, u: UnitId, f: u32) -> bool
+        ensures { not result ≡ works (script_of self.now).faults u f }
+    {
+        let unit = u.get();
+        self.script
+            .entries
+            .iter()
+            .any(|entry| entry.unit == unit && entry.from <= f)
+    }
+
+    /// The entry of a unit, where it has one.
+    pub fn entry_of(&self, u: UnitId) -> Option<&Entry>
+        ensures { option_map (λ entry. fault_of entry.now) result
+            ≡ fault_of_unit (script_of self.now).faults u }
+    {
+        let unit = u.get();
+        self.script.entries.iter().find(|entry| entry.unit == unit)
+    }
+
+    /// Whether an item is about a slot, where the tasks' words begin at these numbers.
+    fn is_about(&self, firsts: &[u16], item: &Item, slot: Slot) -> bool
+        requires { AreFirstWords (script_of self.now).outputs firsts.now }
+        ensures { let about = slot_by (script_of self.now).outputs item.now.kind item.now.index item.now.word in
+            result ≡ is_same_slot about slot }
+    {
+        match slot {
+            Slot::Clock => item.kind == SlotKind::Clock,
+            Slot::Sense(x) => item.kind == SlotKind::Sense && item.index == x,
+            Slot::RelaySense(x) => item.kind == SlotKind::Relay && item.index == x,
+            Slot::Out(w) => {
+                item.kind == SlotKind::Out
+                    && usize::from(first_word(firsts, item.index)) + usize::from(item.word)
+                        == usize::from(w)
+            }
+            Slot::Report => item.kind == SlotKind::Report,
+            Slot::RelayReport(u) => item.kind == SlotKind::RelayReport && item.index == u.get(),
+        }
+    }
+
+    /// Whether an item is about what is said to a receiver in a slot of frame f.
+    fn fits(&self, firsts: &[u16], item: &Item, f: u32, slot: Slot, to: UnitId) -> bool
+        requires { AreFirstWords (script_of self.now).outputs firsts.now }
+        ensures { result ≡ fits (script_of self.now).outputs f slot to (change_of item.now) }
+    {
+        self.is_about(firsts, item, slot)
+            && item.to.contains(&to.get())
+            && item.frame.is_none_or(|frame| frame == f)
+    }
+
+    /// What the first of these items that fits says to a receiver in a slot of frame f, if one fits.
+    pub fn replacement(
+        &self,
+        firsts: &[u16],
+        items: &[Item],
+        f: u32,
+        slot: Slot,
+        to: UnitId,
+    ) -> Option<Option<Word>>
+        requires { AreFirstWords (script_of self.now).outputs firsts.now }
+        ensures { let changes = map change_of items.now in
+            result ≡ replacement_by (script_of self.now).outputs f slot to changes }
+    {
+        items
+            .iter()
+            .find(|item| self.fits(firsts, item, f, slot, to))
+            .map(|item| item.value)
+    }
+}
+
+/// The numbers of the tasks' first output words, where the tasks have so many each, and of the word behind them all.
+pub(crate) fn first_words(counts: &[u8]) -> ArrayVec<u16, 25>
+    requires { length counts.now ≤ 24 }
+    ensures { AreFirstWords counts.now result.items }
+{
+    let mut firsts = ArrayVec::new();
+    let mut first = 0;
+    firsts.push(first);
+    for count in counts {
+        first += u16::from(*count);
+        firsts.push(first);
+    }
+    firsts
+}
+
+/// The number of a task's first output word, and of one behind all where there is no such task.
+fn first_word(firsts: &[u16], task: u8) -> u16
+    requires { (counts : List ℕ) × AreFirstWords counts firsts.now }
+    ensures { (counts : List ℕ) → AreFirstWords counts firsts.now → result ≡ sum (take task counts) }
+{
+    firsts[usize::from(task).min(firsts.len() - 1)]
 }

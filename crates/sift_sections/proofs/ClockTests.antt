@@ -6,7 +6,7 @@ use Rattle.sift_base.specs.declared.stop.Stop.{Stop}
 use Rattle.sift_document.specs.Document.{members_of, IsTableOf}
 use Rattle.sift_document.specs.Rules.{AreKept, IsKept, rule, OfNoEntry}
 use Rattle.sift_document.specs.Testing.{RefusesBy, RefusesFirst}
-use Rattle.sift_document.specs.declared.rule.BrokenRule.{BrokenRule}
+use Rattle.sift_document.specs.declared.entries.BrokenRule.{BrokenRule}
 use Rattle.sift_document.specs.laws.Order.{kept_joined, stopped, stopped_in}
 use Rattle.sift_mission.specs.Data.{Clocks}
 use Rattle.sift_sections.specs.Clock.{clock_rules, clocks_in, drifts_of, error_of, errors_of, figure_rules, length_of, rate_of, skew_of, starts_of, unit_rules, clock_keys}

@@ -12,7 +12,7 @@ use Rattle.sift_script.specs.Script.{Change, Failing, Fault}
 use Rattle.sift_document.specs.Document.{IsTableOf, tables_in}
 use Rattle.sift_document.specs.Rules.{AreKept, BreaksEntries, IsKept, rule}
 use Rattle.sift_document.specs.Testing.{RefusesFirst, Tests, TestsEach}
-use Rattle.sift_document.specs.declared.rule.BrokenRule.{BrokenRule}
+use Rattle.sift_document.specs.declared.entries.BrokenRule.{BrokenRule}
 use Rattle.sift_document.specs.laws.Order.{later, stopped}
 use Rattle.sift_document.specs.laws.Places.{map_map, taken}
 use Rattle.sift_sections.specs.Fault.{StandsAlone, changes_of, fault_in, fault_limit, fault_rules, from_of, stated_storm, unit_of}

@@ -6,7 +6,7 @@ use Rattle.sift_base.specs.declared.stop.Stop.{Stop}
 use Rattle.sift_document.specs.Document.{integer_between}
 use Rattle.sift_document.specs.Rules.{IsKept, OfNoEntry, rule}
 use Rattle.sift_document.specs.Testing.{RefusesBy}
-use Rattle.sift_document.specs.declared.rule.BrokenRule.{BrokenRule}
+use Rattle.sift_document.specs.declared.entries.BrokenRule.{BrokenRule}
 use Rattle.sift_document.specs.laws.Numbers.{between, between_at, read_by}
 use Rattle.sift_sections.specs.Clock.{error_of, length_limit, length_of, rate_of, skew_of, tick_limit}
 

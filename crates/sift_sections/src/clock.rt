@@ -36,7 +36,7 @@ struct Figures {
 ///
 /// Where the table breaks a rule, this is the first of rules 6 to 14 that it breaks. Each speaks of the whole table, so its
 /// place is 0.
-pub fn plan_of(document: &Table, units: u8) -> Result<ClockPlan, Stop<BrokenRule>>
+pub fn stated_clocks(document: &Table, units: u8) -> Result<ClockPlan, Stop<BrokenRule>>
     requires { units ≤ unit_limit }
     ensures read { IfOk result (λ plan. clocks_of plan ≡ clocks_in units (get_member (codes "clock") (table_view document.now))) }
     ensures tests { TestsEach (clock_rules units (get_member (codes "clock") (table_view document.now))) result }

@@ -12,8 +12,7 @@ ghost use Rattle.sift_sections.specs.Fault.{AreItems, StandsAlone, changes_of, f
 ghost use Rattle.sift_sections.specs.Item.{change_in, item_keys};
 ghost use Rattle.sift_sections.specs.Reading.{AreFaultsRead};
 
-use crate::item::item_of;
-use crate::storm::storm_in;
+use crate::item::{item_of, storm_in};
 use sift_base::{NoMemory, Stop};
 use sift_document::{
     BrokenRule, broken, entries_at, entries_between, member_of, number_at, table_of, tables_in,

@@ -1,17 +1,36 @@
-//! Items of faults: what a faulty unit says in place of its own words.
+//! Items of faults: what a faulty unit says in place of its own words, and how it turns stray.
 
-ghost use Rattle.std.specs.Prelude.{codes, ◌≡◌, IfOk, option_and_then, option_map, true};
+ghost use Rattle.std.specs.Prelude.{◌≡◌, option_map, codes, IfOk, option_and_then, true};
+ghost use Rattle.toml.specs.View.{view, table_view};
+ghost use Rattle.sift_script.specs.Script.{failing_of, change_of};
+ghost use Rattle.sift_sections.specs.Storm.{storm_in};
 ghost use Rattle.toml.specs.Data.{as_str};
-ghost use Rattle.toml.specs.View.{table_view};
-ghost use Rattle.sift_script.specs.Script.{change_of};
 ghost use Rattle.sift_document.specs.Document.{read_at};
 ghost use Rattle.sift_sections.specs.Item.{change_in, frame_of, has_index, has_word, kind_named, number_where, receivers_of, said_of};
 
 use sift_base::{NoMemory, Word};
-use sift_document::{digits, integer_between, member_of, number_at, word_value};
-use sift_script::{Item, SlotKind};
+use sift_document::{digits, integer_between, member_of, natural_at, number_at, word_value};
+use sift_script::{Item, Plan, SlotKind};
 use std::alloc::Global;
-use toml::Table;
+use toml::{Table, Value};
+
+// ---- how a faulty unit turns stray
+
+/// The storm that a value states, where it states one.
+pub(crate) fn storm_in(value: &Value) -> Option<Plan>
+    ensures { option_map failing_of result ≡ storm_in (view value.now) }
+{
+    let storm = value.as_table()?;
+    match (
+        natural_at(storm, "number"),
+        number_at(storm, "strays", 0, 1_000_000),
+    ) {
+        (Some(number), Some(strays)) => Some(Plan::Storm { number, strays }),
+        _ => None,
+    }
+}
+
+// ---- what it says in place of its own words
 
 /// The item that a table states, where it states one.
 pub(crate) fn item_of(alloc: Global, table: &Table) -> Result<Option<Item>, NoMemory>

@@ -7,9 +7,8 @@
 mod clock;
 mod fault;
 mod item;
-mod storm;
 mod table;
 
-pub use clock::plan_of;
+pub use clock::stated_clocks;
 pub use fault::script_of;
 pub use table::{check_sheds, tables_of};

@@ -5,7 +5,7 @@ use Rattle.std.proofs.Math.IntN.{*ℤ_comm, suc_ℤ, suc_ℤ-*ℤ}
 use Rattle.std.proofs.Math.Nat.{mul-le-mul_right}
 use Rattle.sift_base.specs.Units.{faulty_count}
 use Rattle.sift_base.specs.laws.Counts.{length-has}
-use Rattle.sift_skew.specs.Keeping.{AreWithin, CeilingFitsExactlyWhere, CorrectedOffsetsAreClose, IsCeiling, left_apart}
+use Rattle.sift_skew.specs.Keeping.{AreReaders, CeilingFitsExactlyWhere, CorrectedOffsetsAreClose, IsCeiling, left_apart}
 use Rattle.sift_skew.proofs.Products.{scaled-add, scaled-sub, scaled-≤}
 use Rattle.sift_skew.proofs.Steps.{corrected_by_room}
 
@@ -32,13 +32,9 @@ corrected_offsets_are_close (pos s) (negsuc e) us works clock read m ceiling som
 corrected_offsets_are_close (pos s) (pos e) us works clock read m (negsuc k) some together readings few is =
     λ p q p_in p_works q_in q_works. absurd (ceiling_natural s e (length us) m k (length-has p us p_in) is)
 corrected_offsets_are_close (pos s) (pos e) us works clock read m (pos rest) some together readings few is =
-    let within : AreWithin (pos s) (pos e) (pos 0) us works clock (λ u. pos 0) read = record {
-      together = together;
-      readings = readings;
-      drifts = λ u u_in u_works. (omega (arith, ints), omega (arith, ints));
-    } in
+    let readers : AreReaders (pos s) (pos e) us works works clock read = record { wider = λ u t. t; together = together; readings = readings } in
     let wide : 2 * length us * e + 3 * m * s ≤ length us * rest = omega (arith, ints, is.enough) in
-    corrected_by_room s e 0 rest us works clock (λ u. pos 0) read within (fewer_shares (length us) m (faulty_count works us) s e rest few wide)
+    corrected_by_room s e rest us works works clock read readers (fewer_shares (length us) m (faulty_count works us) s e rest few wide)
 
 -- twice as many times a number
 twice : (n : ℕ) (a : ℤ) → pos (2 * n) *ℤ a ≡ pos n *ℤ a +ℤ pos n *ℤ a

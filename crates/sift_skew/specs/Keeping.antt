@@ -90,6 +90,21 @@ SkewIsKeptWithMargin =
     (pos 5 *ℤ (error +ℤ rate)) ≤ℤ skew →
     AreTogether skew us works (next_offsets (skew +ℤ error) us clock drift read)
 
+-- those who read the working clocks of a configuration well, the working units and others: whether their own clocks are read well is open
+pub record AreReaders (skew error : ℤ) (us : List ℕ) (reads works : ℕ → Bool) (clock : ℕ → ℤ) (read : ℕ → ℕ → Option ℤ) : Type 0 where
+  pub wider : (u : ℕ) → works u ≡ true → reads u ≡ true
+  pub together : AreTogether skew us reads clock
+  pub readings : (u : ℕ) → has us u ≡ true → reads u ≡ true → ReadsWell error us works clock u (read u)
+
+-- in a configuration with margin, S >= 5 * (E + R) keeps the skew of all who read well, with their drifts
+abbrev pub ReadersAreKeptWithMargin : Type 0
+ReadersAreKeptWithMargin =
+    (skew error rate : ℤ) (us : List ℕ) (reads works : ℕ → Bool) (clock drift : ℕ → ℤ) (read : ℕ → ℕ → Option ℤ) →
+    pos 0 ≤ℤ error → AreReaders skew error us reads works clock read →
+    ((u : ℕ) → has us u ≡ true → reads u ≡ true → IsWithin rate (drift u) (pos 0)) → HasMargin works us →
+    (pos 5 *ℤ (error +ℤ rate)) ≤ℤ skew →
+    AreTogether skew us reads (next_offsets (skew +ℤ error) us clock drift read)
+
 -- clock words tell offsets apart that are no farther apart than the largest skew
 abbrev pub WordsAreReadRight : Type 0
 WordsAreReadRight =

@@ -3,8 +3,8 @@ use Rattle.std.specs.Prelude.{◌≡◌, ◌≢◌, ◌⊎◌, ℕ, ◌+◌, ◌
 use Rattle.std.specs.List.{Contains, range_with_len}
 use Rattle.sift_base.specs.Layout.{IsSlot}
 use Rattle.sift_base.specs.Shapes.{AllShapes, AreShapes, first_word, shape_at, words_in}
-use Rattle.sift_base.specs.declared.layout.Layout.{Layout}
-use Rattle.sift_base.specs.declared.slot.Slot.{Slot}
+use Rattle.sift_base.specs.declared.slots.Layout.{Layout}
+use Rattle.sift_base.specs.declared.slots.Slot.{Slot}
 use Rattle.sift_base.specs.Units.{has}
 use Rattle.sift_table.specs.Rules.{IsFirstBroken, IsGood, least_executors, report_lead}
 use Rattle.sift_table.specs.Schedule.{Schedule, agreed_in, hearing_delay, plain_of, polled_in, run_in, shortest_period, positions_of}

@@ -9,8 +9,8 @@ use Rattle.sift_unit.specs.Desk.{Desk}
 use Rattle.sift_unit.specs.Keeping.{KeepsAs}
 use Rattle.sift_unit.specs.Stepping.{OneCall, Steps, said, heard, entered}
 use Rattle.sift_unit.specs.declared.board.Board.{Board}
-use Rattle.sift_unit.specs.declared.stepped.Stepped.{Stepped}
-use Rattle.sift_unit.specs.declared.stepped.Stepped.TheVariants.{Moved, NotYet, Turned, Landed}
+use Rattle.sift_unit.specs.declared.board.Stepped.{Stepped}
+use Rattle.sift_unit.specs.declared.board.Stepped.TheVariants.{Moved, NotYet, Turned, Landed}
 use Rattle.sift_core.specs.laws.Stages.{end_low}
 
 -- ---- the port stays where it is

@@ -9,7 +9,7 @@ use Rattle.sift_buffer.specs.Tables.{ranges_of}
 use Rattle.sift_buffer.specs.Views.{View, fresh_view}
 use Rattle.sift_mission.specs.Parts.{data_of}
 use Rattle.sift_mission.specs.PartsFit.{PartsFit}
-use Rattle.sift_mission.specs.declared.parts.MissionParts.{MissionParts}
+use Rattle.sift_mission.specs.declared.mission.MissionParts.{MissionParts}
 use Rattle.sift_conduct.specs.declared.account.Account.{Account as TheAccount}
 use Rattle.sift_rogue.specs.Storms.{Call}
 use Rattle.sift_unit.specs.Down.{DownLaw}
@@ -20,11 +20,11 @@ use Rattle.sift_ether.specs.Seats.{Follows, view_of}
 use Rattle.sift_ether.specs.Tokens.{IsMade, conduct_at, conduct_of}
 use Rattle.sift_ether.specs.declared.ether.Ether.{Ether}
 use Rattle.sift_ether.specs.declared.seat.EtherSeat.{EtherSeat}
-use Rattle.sift_ether.specs.declared.token.Token.{Token}
+use Rattle.sift_ether.specs.declared.seat.Token.{Token}
 use Rattle.sift_threads.specs.Crews.{IsSeated, AreSeated, AreLeft, ComeHome}
 use Rattle.sift_threads.specs.Flown.{HasFlown, HaveFlown}
 use Rattle.sift_threads.specs.Seats.{IsManned, IsDone, Came, Comes}
-use Rattle.sift_threads.specs.declared.flown.Flown.{Flown}
+use Rattle.sift_threads.specs.declared.flight.Flown.{Flown}
 use Rattle.sift_threads.specs.declared.seat.Seat.{Seat}
 use Rattle.sift_threads.proofs.Homing.{came_first, flown_as}
 use Rattle.sift_threads.proofs.Landing.{some_item}

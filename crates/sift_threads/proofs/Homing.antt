@@ -4,10 +4,10 @@ use Rattle.std.proofs.lemmas.List.{length-map}
 use Rattle.sift_buffer.specs.Conduct.{Conduct, Stray}
 use Rattle.sift_buffer.specs.Views.{View}
 use Rattle.sift_rogue.specs.Storms.{Call, StormsBy}
-use Rattle.sift_rogue.specs.declared.act.Act.{Act}
+use Rattle.sift_rogue.specs.declared.rogue.Act.{Act}
 use Rattle.sift_script.specs.declared.script.StormEntry.{StormEntry}
 use Rattle.sift_mission.specs.Parts.{data_of}
-use Rattle.sift_mission.specs.declared.parts.MissionParts.{MissionParts}
+use Rattle.sift_mission.specs.declared.mission.MissionParts.{MissionParts}
 use Rattle.sift_conduct.specs.Conduct.{account_of}
 use Rattle.sift_conduct.specs.Acts.{BoardKeeps}
 use Rattle.sift_conduct.specs.Frames.{frames_before}

@@ -4,7 +4,7 @@ use Rattle.std.specs.declared.alloc.Global.{Global}
 use Rattle.std.proofs.lemmas.List.{get_or-map, length-map}
 use Rattle.std.proofs.lemmas.List.FromFn.{length-range_with_len}
 use Rattle.sift_base.specs.Units.{has, unit_limit}
-use Rattle.sift_base.specs.declared.layout.Layout.{Layout}
+use Rattle.sift_base.specs.declared.slots.Layout.{Layout}
 use Rattle.sift_buffer.specs.Core.{Core}
 use Rattle.sift_buffer.specs.Journals.{Pages, no_pages}
 use Rattle.sift_buffer.specs.Tables.{ranges_of}
@@ -13,7 +13,7 @@ use Rattle.sift_rogue.specs.Storms.{Call}
 use Rattle.sift_ether.specs.Landed.{HaveLanded}
 use Rattle.sift_ether.specs.Tokens.{IsMade, conduct_at}
 use Rattle.sift_ether.specs.declared.ether.Ether.{Ether}
-use Rattle.sift_ether.specs.declared.token.Token.{Token}
+use Rattle.sift_ether.specs.declared.seat.Token.{Token}
 use Rattle.sift_mission.specs.Data.{MissionData, FlownMission}
 use Rattle.sift_mission.specs.Fits.{Fits}
 use Rattle.sift_mission.specs.Flown.{flown}
@@ -27,7 +27,7 @@ use Rattle.sift_flight.specs.Told.{told, no_account, accounts_of, IsLogged}
 use Rattle.sift_flight.specs.declared.flight.Flight.{Flight as TheFlight}
 use Rattle.sift_core.specs.Storms.{IsRoundByRogues}
 use Rattle.sift_threads.specs.Flown.{HaveFlown, HasFlown}
-use Rattle.sift_threads.specs.declared.flown.Flown.{Flown}
+use Rattle.sift_threads.specs.declared.flight.Flown.{Flown}
 
 -- an item of a list that has one
 pub some_item : {A : Type 0} (xs : List A) (n : ℕ) → n < length xs → A

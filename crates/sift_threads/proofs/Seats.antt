@@ -3,7 +3,7 @@ use Rattle.std.proofs.Common.{◌≡◌, ⊎_elim, ℕ, ◌+◌, ◌-◌, ◌<�
 use Rattle.sift_buffer.specs.Conduct.{Stray, never}
 use Rattle.sift_buffer.specs.Views.{View}
 use Rattle.sift_rogue.specs.Storms.{Call, Started, StormsAddUp, Shoots, sifted, stray_of, StormsBy}
-use Rattle.sift_rogue.specs.declared.act.Act.{Act}
+use Rattle.sift_rogue.specs.declared.rogue.Act.{Act}
 use Rattle.sift_script.specs.declared.script.StormEntry.{StormEntry}
 use Rattle.sift_mission.specs.Data.{FlownMission}
 use Rattle.sift_mission.specs.Parts.{data_of}
@@ -11,8 +11,8 @@ use Rattle.sift_unit.specs.Boards.{desk_of, Drives}
 use Rattle.sift_unit.specs.Down.{StrayLaw}
 use Rattle.sift_unit.specs.Stepping.{Steps}
 use Rattle.sift_unit.specs.declared.board.Board.{Board}
-use Rattle.sift_unit.specs.declared.stepped.Stepped.{Stepped}
-use Rattle.sift_unit.specs.declared.stepped.Stepped.TheVariants.{Moved, NotYet, Turned, Landed}
+use Rattle.sift_unit.specs.declared.board.Stepped.{Stepped}
+use Rattle.sift_unit.specs.declared.board.Stepped.TheVariants.{Moved, NotYet, Turned, Landed}
 use Rattle.sift_core.specs.Courses.{storm_at}
 use Rattle.sift_core.specs.laws.Stages.{end_low}
 use Rattle.sift_threads.specs.SeatSteps.{BeginsStorm, StoresNext}

@@ -8,11 +8,11 @@ use Rattle.sift_threads.proofs.Trees.{task_sync}
 use Rattle.sift_program.specs.contracts.program.Program as Program
 use Rattle.sift_mission.specs.contracts.mission.Mission as Mission
 use Rattle.sift_mission.specs.contracts.mission.Mission.TheInside as Inside
-use Rattle.sift_mission.specs.contracts.parts.MissionParts as MissionParts
+use Rattle.sift_mission.specs.contracts.mission.MissionParts as MissionParts
 use Rattle.sift_code.proofs.checked.Checked.TheSendSync as checked
 use Rattle.sift_script.proofs.checked.GoodScript.TheSendSync as script
-use Rattle.sift_skew.proofs.plan.ClockPlan.TheSendSync as clock
-use Rattle.sift_table.proofs.checked.GoodTable.TheSendSync as table
+use Rattle.sift_skew.proofs.clocks.ClockPlan.TheSendSync as clock
+use Rattle.sift_table.proofs.table.GoodTable.TheSendSync as table
 use Rattle.sift_mission.proofs.crews.Crews.TheSendSync as crews
 use Rattle.sift_mission.proofs.timetable.Timetable.TheSendSync as timetable
 use Rattle.sift_unit.specs.contracts.board.Board as Board

@@ -3,7 +3,7 @@ use Rattle.std.specs.Prelude.{◌≡◌, ℕ, ◌<◌, ◌≤◌, List, ◌++◌
 use Rattle.std.specs.List.{AllZip}
 use Rattle.std.specs.declared.alloc.Global.{Global}
 use Rattle.sift_mission.specs.Parts.{data_of}
-use Rattle.sift_mission.specs.declared.parts.MissionParts.{MissionParts}
+use Rattle.sift_mission.specs.declared.mission.MissionParts.{MissionParts}
 use Rattle.sift_conduct.specs.declared.account.Account.{Account}
 use Rattle.sift_rogue.specs.Storms.{Call}
 use Rattle.sift_ether.specs.Seating.{IsSeatOf, IsTokenBack}
@@ -11,11 +11,11 @@ use Rattle.sift_ether.specs.Seats.{Follows, view_of}
 use Rattle.sift_ether.specs.Tokens.{IsMade}
 use Rattle.sift_ether.specs.declared.ether.Ether.{Ether}
 use Rattle.sift_ether.specs.declared.seat.EtherSeat.{EtherSeat}
-use Rattle.sift_ether.specs.declared.token.Token.{Token}
+use Rattle.sift_ether.specs.declared.seat.Token.{Token}
 use Rattle.sift_unit.specs.declared.board.Board.{Board}
 use Rattle.sift_threads.specs.Flown.{HaveFlown}
 use Rattle.sift_threads.specs.Seats.{IsManned, IsDone, Comes}
-use Rattle.sift_threads.specs.declared.flown.Flown.{Flown}
+use Rattle.sift_threads.specs.declared.flight.Flown.{Flown}
 use Rattle.sift_threads.specs.declared.seat.Seat.{Seat}
 
 -- the seat of unit u of a mission: at the ether's seat of a token, with a board and a rogue, and the unit flies

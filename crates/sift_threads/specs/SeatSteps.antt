@@ -3,7 +3,7 @@ use Rattle.std.specs.Prelude.{◌≡◌, List, Option, Some, option_map, option_
 use Rattle.sift_buffer.specs.Conduct.{Stray}
 use Rattle.sift_buffer.specs.Views.{View, IsButForStrays}
 use Rattle.sift_rogue.specs.Storms.{Call, Started, Shoots, stray_of}
-use Rattle.sift_rogue.specs.declared.act.Shot.{Shot}
+use Rattle.sift_rogue.specs.declared.rogue.Shot.{Shot}
 use Rattle.sift_script.specs.declared.script.StormEntry.{StormEntry}
 use Rattle.sift_threads.specs.Seats.{sifted_at, storm_of}
 use Rattle.sift_threads.specs.declared.seat.Seat.{Seat}

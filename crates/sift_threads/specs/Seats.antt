@@ -6,7 +6,7 @@ use Rattle.sift_buffer.specs.Views.{View}
 use Rattle.sift_mission.specs.Data.{MissionData, FlownMission}
 use Rattle.sift_mission.specs.Parts.{data_of, flown_of}
 use Rattle.sift_rogue.specs.Storms.{Call, Storms, sifted}
-use Rattle.sift_rogue.specs.declared.act.Act.{Act}
+use Rattle.sift_rogue.specs.declared.rogue.Act.{Act}
 use Rattle.sift_script.specs.declared.script.StormEntry.{StormEntry}
 use Rattle.sift_unit.specs.Boards.{Drives}
 use Rattle.sift_core.specs.Courses.{storm_at}

@@ -1,5 +1,5 @@
-//! Flights of missions, on threads.
-ghost use Rattle.std.specs.Prelude.{◌≡◌, ◌≤◌, ℕ, List, IfOk, length};
+//! Flights of missions, on threads, and what the flight of all units of an ether leaves.
+ghost use Rattle.std.specs.Prelude.{◌≡◌, ◌≤◌, ℕ, List, [], IfOk, length, vec_capacity};
 ghost use Rattle.sift_base.specs.Units.{unit_limit};
 ghost use Rattle.sift_core.specs.Storms.{IsRoundByRogues};
 ghost use Rattle.sift_ether.specs.Tokens.{IsMade};
@@ -8,9 +8,9 @@ ghost use Rattle.sift_mission.specs.Parts.{data_of, flown_of};
 ghost use Rattle.sift_threads.specs.Flown.{HaveFlown};
 
 use crate::bell::EtherBell;
-use crate::flown::Flown;
 use crate::seating::{leave_home, seat_all};
 use sift_base::NoMemory;
+use sift_conduct::Account;
 use sift_core::Machine;
 use sift_ether::{Ether, Token};
 use sift_flight::{Flight, flights_that_come_home_are_round};
@@ -20,6 +20,34 @@ use sift_workers::{Probe, fly_all};
 use std::alloc::Global;
 use std::sync::Wait;
 use std::thread::Threads;
+
+/// The tokens of an ether after its units' flights, and the accounts of each unit, both in the order
+/// of the units; and the rogues, each in its place.
+#[derive(Drop)]
+pub struct Flown<R> {
+    pub tokens: Vec<Token>,
+    pub accounts: Vec<Vec<Account>>,
+    pub rogues: Vec<R>,
+}
+
+impl<R> Flown<R> {
+    /// Nothing, with room for what so many units and so many rogues leave.
+    pub(crate) fn with_room(
+        alloc: Global,
+        units: usize,
+        rogues: usize,
+    ) -> Result<Flown<R>, NoMemory>
+        ensures tokens { IfOk result (λ empty. (empty.tokens.items ≡ []) × (units ≤ vec_capacity empty.tokens)) }
+        ensures accounts { IfOk result (λ empty. (empty.accounts.items ≡ []) × (units ≤ vec_capacity empty.accounts)) }
+        ensures rogues { IfOk result (λ empty. (empty.rogues.items ≡ []) × (rogues ≤ vec_capacity empty.rogues)) }
+    {
+        Ok(Flown {
+            tokens: Vec::with_capacity(alloc, units)?,
+            accounts: Vec::with_capacity(alloc, units)?,
+            rogues: Vec::with_capacity(alloc, rogues)?,
+        })
+    }
+}
 
 /// Flies the units of a mission over an ether that was made for it, each at the seat of its token.
 /// Worker i drives the boards of the units u with `u mod workers = i`. The rogues are those of the

@@ -3,12 +3,9 @@
 
 mod bell;
 mod flight;
-mod flown;
-mod piloting;
 mod seat;
 mod seating;
 
-pub use flight::{fly_seats, fly_threads};
-pub use flown::Flown;
+pub use flight::{Flown, fly_seats, fly_threads};
 pub use seat::Seat;
 pub use sift_workers::{NoProbe, Probe};

@@ -1,16 +1,18 @@
-//! A unit's board at its port, with its rogue.
+//! A unit's board at its port, with its rogue: what a worker drives.
 ghost use Rattle.std.specs.Prelude.{◌≡◌, ◌<◌, ℕ, Some, None};
 ghost use Rattle.sift_script.specs.declared.script.StormEntry.{StormEntry};
 ghost use Rattle.sift_workers.specs.Going.{IsHome};
+ghost use Rattle.sift_threads.specs.Coming.{itself, further};
 ghost use Rattle.sift_threads.specs.Seats.{IsManned, IsStraying, IsDone, Comes, storm_of};
 ghost use Rattle.sift_threads.specs.SeatSteps.{BeginsStorm, StoresNext};
 
 use sift_base::UnitId;
 use sift_buffer::Port;
+use sift_core::begin_storm;
 use sift_mission::Mission;
 use sift_rogue::{Rogue, next_shot, storms_add_up};
 use sift_unit::{Board, Stepped, boards_drive_beside_strays};
-use sift_workers::{Probe, Went};
+use sift_workers::{Pilot, Probe, Went};
 
 /// A unit of a mission: its board at its port, and its rogue, which is called once the unit has
 /// turned.
@@ -39,16 +41,12 @@ impl<T: Port, R: Rogue> Seat<'_, T, R> {
         requires { (storm : StormEntry) × (storm_of self.old ≡ Some storm) }
         ensures { BeginsStorm R.allows self.old self.new }
     {
-        if let Some(storm) = self.mission.parts().script.storm_of(self.unit) {
-            self.rogue.start(storm.number);
-            self.left = Some(storm.strays);
-            return;
-        }
-        unreachable!()
+        let strays = begin_storm(self.mission, self.unit, &mut self.rogue);
+        self.left = Some(strays);
     }
 
     /// The next step of a unit that flies. Where it turns, its storm begins.
-    pub(crate) fn fly_on<B: Probe>(&mut self, probe: &B) -> Went
+    fn fly_on<B: Probe>(&mut self, probe: &B) -> Went
         requires manned { IsManned T.view self.old }
         requires flies { self.old.left ≡ None }
         ensures manned { IsManned T.view self.new }
@@ -87,7 +85,7 @@ impl<T: Port, R: Rogue> Seat<'_, T, R> {
     }
 
     /// The next stray of a unit that has turned, of whose rogue so many calls are left.
-    pub(crate) fn stray_on(&mut self, left: u32) -> Went
+    fn stray_on(&mut self, left: u32) -> Went
         requires manned { IsManned T.view self.old }
         requires left { self.old.left ≡ Some left }
         ensures manned { IsManned T.view self.new }
@@ -102,5 +100,24 @@ impl<T: Port, R: Rogue> Seat<'_, T, R> {
         self.store_next();
         self.left = Some(left - 1);
         Went::Moved
+    }
+}
+
+impl<T: Port + Drop, R: Rogue> Pilot for Seat<'_, T, R> {
+    ghost drives = { IsManned T.view };
+
+    ghost comes = { Comes T.follows R.allows };
+
+    ghost is_home = { λ x. IsManned T.view x × IsDone T.view x };
+
+    ghost comes_itself = { itself T.follows R.allows };
+
+    ghost comes_on = { further T.follows R.allows };
+
+    fn go<B: Probe>(&mut self, probe: &B) -> Went {
+        match self.left {
+            Some(left) => self.stray_on(left),
+            None => self.fly_on(probe),
+        }
     }
 }

@@ -9,7 +9,7 @@ ghost use Rattle.sift_ether.specs.Tokens.{IsMade, IsTokenOf};
 ghost use Rattle.sift_threads.specs.Crews.{IsSeated, AreSeated, AreLeft, ComeHome};
 ghost use Rattle.sift_threads.specs.Seats.{IsManned};
 
-use crate::flown::Flown;
+use crate::flight::Flown;
 use crate::seat::Seat;
 use sift_base::UnitId;
 use sift_conduct::Account;

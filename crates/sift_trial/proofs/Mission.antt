@@ -9,7 +9,7 @@ use Rattle.toml.specs.Data.{Members, get_member}
 use Rattle.sift_base.specs.Draw.{draw_at}
 use Rattle.sift_base.specs.Word.{word_count}
 use Rattle.sift_base.specs.Name.{IsName}
-use Rattle.sift_base.specs.declared.layout.Layout.{Layout}
+use Rattle.sift_base.specs.declared.slots.Layout.{Layout}
 use Rattle.sift_gen.specs.Scenario.{fault_table, sensor_tables, task_tables}
 use Rattle.sift_gen.specs.Tasks.{sensor_name, task_name}
 use Rattle.sift_script.specs.Rules as scripts

@@ -2,9 +2,8 @@
 #![tactic(auto)]
 
 mod drawing;
-mod law;
-mod texts;
 
-pub use drawing::drawn_mission;
-pub use law::{drawn_missions_have_no_storms, drawn_trees_are_missions};
-pub use texts::{drawn_tasks_are_brief, drawn_texts_are_tasks};
+pub use drawing::{
+    drawn_mission, drawn_missions_have_no_storms, drawn_tasks_are_brief, drawn_texts_are_tasks,
+    drawn_trees_are_missions,
+};

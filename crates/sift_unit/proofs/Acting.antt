@@ -1,7 +1,7 @@
 -- What a unit has said and heard up to a place, by one equation a place, as the place moves on.
 use Rattle.std.proofs.Common.{◌≡◌, ◌≢◌, ℕ, ◌+◌, ◌<◌, ◌≤◌, List, true, Option, Some, None, sym, ap, ◌∙◌, subst, arith, option_map}
 use Rattle.sift_base.specs.Units.{unit_limit}
-use Rattle.sift_base.specs.declared.slot.Slot.{Slot}
+use Rattle.sift_base.specs.declared.slots.Slot.{Slot}
 use Rattle.sift_buffer.specs.Conduct.{Saying, Hearing, saying, hearing, with_said, with_heard}
 use Rattle.sift_buffer.specs.Conduct.{Conduct as Acts}
 use Rattle.sift_mission.specs.Data.{FlownMission, IsConfigOf}

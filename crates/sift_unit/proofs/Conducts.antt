@@ -4,8 +4,8 @@ use Rattle.std.specs.Prelude.{ℤ, length, slice_index, ◌+ℤ◌}
 use Rattle.std.specs.List.{range_with_len}
 use Rattle.std.proofs.lemmas.Bool.{cases_Bool, eqb-false}
 use Rattle.sift_base.specs.Units.{has, has_bit, holds}
-use Rattle.sift_base.specs.declared.slot.Slot.{Slot}
-use Rattle.sift_base.specs.declared.slot.Slot.TheVariants.{Clock, RelaySense, Out, RelayReport}
+use Rattle.sift_base.specs.declared.slots.Slot.{Slot}
+use Rattle.sift_base.specs.declared.slots.Slot.TheVariants.{Clock, RelaySense, Out, RelayReport}
 use Rattle.sift_base.specs.laws.ReadBack.{and_in}
 use Rattle.sift_base.specs.laws.Ranges.{any-same}
 use Rattle.sift_clock.specs.Correction.{corrected_offset}

@@ -17,8 +17,8 @@ use Rattle.sift_unit.specs.Going.{InRange, Going}
 use Rattle.sift_unit.specs.Keeping.{IsEarly}
 use Rattle.sift_unit.specs.Passing.{Passes, distance, left}
 use Rattle.sift_unit.specs.Stepping.{OneCall, HasMoved, HasWaited, HasTurned, HasLanded, Steps, said, heard, entered}
-use Rattle.sift_unit.specs.declared.stepped.Stepped.{Stepped}
-use Rattle.sift_unit.specs.declared.stepped.Stepped.TheVariants.{Moved, NotYet, Turned, Landed}
+use Rattle.sift_unit.specs.declared.board.Stepped.{Stepped}
+use Rattle.sift_unit.specs.declared.board.Stepped.TheVariants.{Moved, NotYet, Turned, Landed}
 use Rattle.sift_unit.proofs.Skipping.{subframe_going}
 use Rattle.sift_unit.proofs.Starting.{end_is}
 use Rattle.sift_unit.proofs.Ending.{frame_going}
@@ -44,19 +44,29 @@ module _ (m : FlownMission) (fit : Fits m) (b : Desk) (end : is_end m b ≡ true
   next_desk memory cfg clk last accounts =
       record b { frame = b.frame + 1; subframe = 0; part = 0; slot = 0; other = 0; cfg = cfg; clk = clk; last = last; memory = memory; accounts = accounts }
 
+  -- a memory of the right shape, a configuration, an offset, words and accounts that are the ones that an account gives the next frame
+  pub record IsGivenBy (account : Account) (memory : Memory) (cfg : List ℕ) (clk : ℤ) (last : List ℕ) (accounts : List Account) : Type 0 where
+    pub of_frame : account ≡ account_now m b
+    pub shape : IsShaped m account.next_cfg b.unit memory
+    pub configuration : cfg ≡ account.next_cfg
+    pub offset : clk ≡ account.next_clk
+    pub words : last ≡ account.outs
+    pub one_more : accounts ≡ b.accounts ++ account ∷ []
+
   -- to the next frame, with what the account says
   pub frame_on : OffsetsChangeLittle → b.subframe + 1 ≡ m.period → b.frame < m.frames → (account : Account) (memory : Memory)
-      (cfg : List ℕ) (clk : ℤ) (last : List ℕ) (accounts : List Account) →
-      account ≡ account_now m b → IsShaped m account.next_cfg b.unit memory → cfg ≡ account.next_cfg → clk ≡ account.next_clk →
-      last ≡ account.outs → accounts ≡ b.accounts ++ account ∷ [] →
+      (cfg : List ℕ) (clk : ℤ) (last : List ℕ) (accounts : List Account) → IsGivenBy account memory cfg clk last accounts →
       (c : Acts) → Going m b c → Going m (next_desk memory cfg clk last accounts) (with_entered c)
-  frame_on little high room account memory cfg clk last accounts is shape ec ek el pushed c g =
+  frame_on little high room account memory cfg clk last accounts given c g =
       let t = end_is m b end in
+      let is = given.of_frame in
       let at : AtFrameEnd m fit b = record { slot = t.1; part = t.0; subframe = high; frame = room } in
-      let done = frame_going m fit b memory accounts (subst (λ (z : Account). IsShaped m z.next_cfg b.unit memory) is shape) (pushed ∙ ap (λ z. b.accounts ++ z ∷ []) is) little c g at in
-      subst (λ z. Going m (next_desk memory z clk last accounts) (with_entered c)) (sym (ec ∙ ap (λ (z : Account). z.next_cfg) is))
-      (subst (λ z. Going m (next_desk memory (account_now m b).next_cfg z last accounts) (with_entered c)) (sym (ek ∙ ap (λ (z : Account). z.next_clk) is))
-      (subst (λ z. Going m (next_desk memory (account_now m b).next_cfg (account_now m b).next_clk z accounts) (with_entered c)) (sym (el ∙ ap (λ (z : Account). z.outs) is))
+      let shape = subst (λ (z : Account). IsShaped m z.next_cfg b.unit memory) is given.shape in
+      let pushed = given.one_more ∙ ap (λ z. b.accounts ++ z ∷ []) is in
+      let done = frame_going m fit b memory accounts shape pushed little c g at in
+      subst (λ z. Going m (next_desk memory z clk last accounts) (with_entered c)) (sym (given.configuration ∙ ap (λ (z : Account). z.next_cfg) is))
+      (subst (λ z. Going m (next_desk memory (account_now m b).next_cfg z last accounts) (with_entered c)) (sym (given.offset ∙ ap (λ (z : Account). z.next_clk) is))
+      (subst (λ z. Going m (next_desk memory (account_now m b).next_cfg (account_now m b).next_clk z accounts) (with_entered c)) (sym (given.words ∙ ap (λ (z : Account). z.outs) is))
       done))
 
   -- how far it has come then

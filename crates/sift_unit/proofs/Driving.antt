@@ -189,6 +189,7 @@ module _ (m : FlownMission) (b : TheBoard) (v : View) (flight : IsInFlight m b v
   pub hear_slot : is_hearing m (desk_of b) ≡ true → IsSlotOfFrame m b.cfg b.frame b.slot
   hear_slot e = slot_here (hearing_is m fit (desk_of b) e).slot
 
+  -- what it hears is said before the frame ends
   pub hear_inside : is_hearing m (desk_of b) ≡ true → m.due b.cfg (m.kind b.slot) < m.period
   hear_inside e = heard_inside m fit v.ranges flight.drives.ranges (desk_of b) v.conduct going_here flight.frame (hearing_is m fit (desk_of b) e)
 
@@ -200,9 +201,11 @@ module _ (m : FlownMission) (b : TheBoard) (v : View) (flight : IsInFlight m b v
   pub say_slot : is_saying m (desk_of b) ≡ true → IsSlotOfFrame m b.cfg b.frame b.slot
   say_slot e = slot_here (saying_is m fit (desk_of b) e).slot
 
+  -- and what it says is due before the frame ends
   pub say_inside : is_saying m (desk_of b) ≡ true → m.due b.cfg (m.kind b.slot) < m.period
   say_inside e = said_inside m fit v.ranges flight.drives.ranges (desk_of b) v.conduct going_here flight.frame (saying_is m fit (desk_of b) e)
 
+  -- to one of the units that may be
   pub say_low : is_saying m (desk_of b) ≡ true → b.other < unit_limit
   say_low e = said_low m fit v.ranges flight.drives.ranges (desk_of b) v.conduct going_here flight.frame (saying_is m fit (desk_of b) e)
 
@@ -210,6 +213,7 @@ module _ (m : FlownMission) (b : TheBoard) (v : View) (flight : IsInFlight m b v
   pub say_member : is_saying m (desk_of b) ≡ true → has b.cfg b.unit ≡ true
   say_member e = sayer_there m fit v.ranges flight.drives.ranges (desk_of b) v.conduct going_here flight.frame (saying_is m fit (desk_of b) e)
 
+  -- its memory has the shape of its frame
   pub shape_here : IsShaped m b.cfg b.unit (memory_of b.memory)
   shape_here = going_here.range.shape
 

@@ -5,8 +5,8 @@ use Rattle.std.specs.Prelude.{ℤ, ◌+ℤ◌, if◌then◌else◌, slice_index}
 use Rattle.std.specs.FinSet as set
 use Rattle.std.proofs.lemmas.Bool.{cases_Bool, eq-eqb, not-true, and_from, eqb-false}
 use Rattle.sift_base.specs.Units.{has, holds, others}
-use Rattle.sift_base.specs.declared.slot.Slot.{Slot}
-use Rattle.sift_base.specs.declared.slot.Slot.TheVariants.{Clock, Sense, RelaySense, Out, Report, RelayReport}
+use Rattle.sift_base.specs.declared.slots.Slot.{Slot}
+use Rattle.sift_base.specs.declared.slots.Slot.TheVariants.{Clock, Sense, RelaySense, Out, Report, RelayReport}
 use Rattle.sift_base.specs.laws.Others.{has-others}
 use Rattle.sift_base.specs.laws.Counts.{of_filtered, map-same}
 use Rattle.sift_base.specs.laws.ReadBack.{and_in}

@@ -1,7 +1,7 @@
 -- A board as a plain record: where its unit stands in the flight, and what it remembers.
 use Rattle.std.specs.Prelude.{ℕ, ◌+◌, ◌&&◌, ◌||◌, nat_lt, nat_eq, Bool, List, [], Option, if◌then◌else◌, slice_index_or, ℤ}
-use Rattle.sift_base.specs.declared.slot.Slot.{Slot}
-use Rattle.sift_base.specs.declared.slot.Slot.TheVariants.{Report}
+use Rattle.sift_base.specs.declared.slots.Slot.{Slot}
+use Rattle.sift_base.specs.declared.slots.Slot.TheVariants.{Report}
 use Rattle.sift_mission.specs.Data.{FlownMission}
 use Rattle.sift_mission.specs.Slots.{calls}
 use Rattle.sift_conduct.specs.Conduct.{Account}

@@ -1,7 +1,7 @@
 -- What holds of a board that flies: of its desk b and of what its unit did, c.
 use Rattle.std.specs.Prelude.{◌≡◌, ℕ, ◌+◌, ◌*◌, ◌<◌, ◌≤◌, ◌&&◌, true, false, List, Option, Some, None, if◌then◌else◌, slice_index_or, length, option_map, unwrap_or, ℤ}
 use Rattle.sift_base.specs.Units.{has, unit_limit}
-use Rattle.sift_base.specs.declared.slot.Slot.{Slot}
+use Rattle.sift_base.specs.declared.slots.Slot.{Slot}
 use Rattle.sift_buffer.specs.Conduct.{Saying, Hearing, saying, never}
 use Rattle.sift_buffer.specs.Conduct.{Conduct as Acts}
 use Rattle.sift_mission.specs.Data.{FlownMission, IsConfigOf}

@@ -6,8 +6,8 @@ use Rattle.sift_buffer.specs.Views.{View, PortMaySay, PortMayHear, view_with_sai
 use Rattle.sift_mission.specs.Data.{FlownMission}
 use Rattle.sift_unit.specs.Desk.{Desk}
 use Rattle.sift_unit.specs.Passing.{distance}
-use Rattle.sift_unit.specs.declared.stepped.Stepped.{Stepped}
-use Rattle.sift_unit.specs.declared.stepped.Stepped.TheVariants.{Moved, NotYet, Turned, Landed}
+use Rattle.sift_unit.specs.declared.board.Stepped.{Stepped}
+use Rattle.sift_unit.specs.declared.board.Stepped.TheVariants.{Moved, NotYet, Turned, Landed}
 
 -- the one call that moved the unit: in its subframe it said one word that it had not said yet, or heard one that it had not heard yet, or it
 -- entered the next subframe

@@ -1,8 +1,8 @@
-//! A board: one unit's part in a flight.
+//! A board, which is one unit's part in a flight, and what a step of it came to.
 
 ghost use Rattle.std.specs.Prelude.{◌≡◌, ◌<◌, ◌≤◌, length, slice_index_or, vec_capacity};
 
-use sift_base::{UnitId, Word};
+use sift_base::{UNIT_LIMIT, UnitId, Word};
 use sift_conduct::Account;
 use sift_config::Config;
 use sift_mission::Part;
@@ -26,7 +26,7 @@ pub struct Board {
     pub(crate) other: u8,
     pub(crate) cfg: Config,
     pub(crate) clk: i64,
-    pub(crate) places: [Option<Word>; 8],
+    pub(crate) places: [Option<Word>; UNIT_LIMIT],
     pub(crate) memory: Memory,
     pub(crate) accounts: Vec<Account>,
     ghost room: { frames ≤ vec_capacity accounts },
@@ -47,4 +47,17 @@ impl Board {
     {
         self.accounts
     }
+}
+
+/// What a step of a board came to.
+#[derive(Clone, Copy, Debug, PartialEq, Eq)]
+pub enum Stepped {
+    /// The unit said or heard one word, or entered the next subframe.
+    Moved,
+    /// The unit waits, since another unit's progress number was found below its own.
+    NotYet { unit: UnitId, seen: u64 },
+    /// The unit has turned stray.
+    Turned,
+    /// The unit has ended all frames.
+    Landed,
 }

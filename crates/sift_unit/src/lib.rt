@@ -4,11 +4,10 @@
 mod board;
 mod laws;
 mod new_board;
-mod stepped;
 mod stepping;
 mod walk;
 
-pub use board::Board;
+pub use board::{Board, Stepped};
 pub use laws::{
     boards_account_for_their_frames, boards_drive_beside_strays, boards_keep_to_their_conduct,
     boards_may_jump, boards_that_are_down_have_flown, boards_that_step_keep_to_their_conduct,
@@ -17,4 +16,3 @@ pub use laws::{
 };
 pub use sift_conduct::Account;
 pub use sift_mission::{Mission, MissionParts};
-pub use stepped::Stepped;

@@ -6,7 +6,7 @@ ghost use Rattle.sift_mission.specs.Parts.{flown_of};
 ghost use Rattle.sift_unit.specs.Boards.{IsNewBoard};
 
 use crate::board::Board;
-use sift_base::{NoMemory, UnitId};
+use sift_base::{NoMemory, UNIT_LIMIT, UnitId};
 use sift_mission::{Mission, Part, a_mission_fits};
 use sift_unit_frame::Memory;
 use std::alloc::Global;
@@ -34,7 +34,7 @@ impl Board {
             other: 0,
             cfg: mission.everyone(),
             clk: mission.offset(unit),
-            places: [None; 8],
+            places: [None; UNIT_LIMIT],
             memory,
             accounts,
         })

@@ -10,8 +10,7 @@ ghost use Rattle.sift_unit.specs.Stepping.{Steps, HasMoved};
 ghost use Rattle.sift_unit.specs.Conditions.{IsInFlight, MayWalk, MayGoOn};
 ghost use Rattle.sift_unit.specs.Boards.{desk_of, Drives, IsMarked, GoesOn, TurnsNext, BeginsNext};
 
-use crate::board::Board;
-use crate::stepped::Stepped;
+use crate::board::{Board, Stepped};
 use sift_base::UnitId;
 use sift_buffer::{Entering, Port};
 use sift_mission::{Mission, Part};

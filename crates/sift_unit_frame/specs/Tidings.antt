@@ -3,8 +3,8 @@ use Rattle.std.specs.Prelude.{ℕ, List, [], slice_index, Bool, true, false, nat
 use Rattle.std.specs.List.{list_any, range_with_len}
 use Rattle.sift_base.specs.Word.{word_of}
 use Rattle.sift_base.specs.Units.{Units, has, holds, has_bit, bits_of}
-use Rattle.sift_base.specs.declared.slot.Slot.{Slot}
-use Rattle.sift_base.specs.declared.slot.Slot.TheVariants.{Clock, Sense, RelaySense, Out, Report, RelayReport}
+use Rattle.sift_base.specs.declared.slots.Slot.{Slot}
+use Rattle.sift_base.specs.declared.slots.Slot.TheVariants.{Clock, Sense, RelaySense, Out, Report, RelayReport}
 use Rattle.sift_exec.specs.Conviction.{everyone_in, nobody, next_by}
 use Rattle.sift_exec.specs.declared.catches.Catches.{Catches}
 use Rattle.sift_mission.specs.Data.{FlownMission}

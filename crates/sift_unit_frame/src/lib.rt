@@ -4,7 +4,6 @@
 
 mod memory;
 mod noted;
-mod readings;
 mod tidings;
 mod word_file;
 

@@ -10,10 +10,11 @@ ghost use Rattle.sift_unit_frame.specs.Conditions.{IsShaped, IsTaskOf};
 ghost use Rattle.sift_unit_frame.specs.Memories.{memory_of, TurnsInShape, TakesBefore};
 
 use crate::word_file::WordFile;
-use sift_base::{NoMemory, UnitId, UnitSet, Word};
+use sift_base::{NoMemory, SENSOR_LIMIT, UNIT_LIMIT, UnitId, UnitSet, Word};
 use sift_conduct::Account;
 use sift_config::Config;
 use sift_mission::{Mission, a_mission_flies};
+use sift_program::WORD_LIMIT;
 use std::alloc::Global;
 
 /// What a unit remembers of a frame: by sensor, by word and by unit.
@@ -24,15 +25,15 @@ pub struct Memory {
     /// The next offset.
     pub(crate) next_clk: i64,
     /// Each sensor's word, as its reader said it.
-    pub(crate) direct: [Option<Word>; 8],
+    pub(crate) direct: [Option<Word>; SENSOR_LIMIT],
     /// By sensor, the units caught by their relays.
-    pub(crate) relay: [UnitSet; 8],
+    pub(crate) relay: [UnitSet; SENSOR_LIMIT],
     /// By word, the units caught in its poll.
-    pub(crate) poll: [UnitSet; 64],
+    pub(crate) poll: [UnitSet; WORD_LIMIT],
     /// Each unit's report, as it said it.
-    pub(crate) reports: [Option<Word>; 8],
+    pub(crate) reports: [Option<Word>; UNIT_LIMIT],
     /// Each unit's report, as it was agreed.
-    pub(crate) agreed: [Word; 8],
+    pub(crate) agreed: [Word; UNIT_LIMIT],
     /// The agreed words, the words before, the voted words and those that the unit made itself.
     pub(crate) words: WordFile,
 }
@@ -48,11 +49,11 @@ impl Memory {
         Ok(Memory {
             clock: UnitSet::empty(),
             next_clk: 0,
-            direct: [None; 8],
-            relay: [UnitSet::empty(); 8],
-            poll: [UnitSet::empty(); 64],
-            reports: [None; 8],
-            agreed: [Word::of(0); 8],
+            direct: [None; SENSOR_LIMIT],
+            relay: [UnitSet::empty(); SENSOR_LIMIT],
+            poll: [UnitSet::empty(); WORD_LIMIT],
+            reports: [None; UNIT_LIMIT],
+            agreed: [Word::of(0); UNIT_LIMIT],
             words: WordFile::make(alloc, mission.sensors(), mission.starts())?,
         })
     }

@@ -1,26 +1,28 @@
-//! What a unit notes of a slot, all of which it has heard.
+//! What a unit notes of a slot, all of which it has heard, and what it reads of the other clocks.
 
-ghost use Rattle.std.specs.Prelude.{◌≡◌, ◌<◌, ◌≤◌, length, ◌&&◌, ℕ, ℤ, List, pos, Some, if◌then◌else◌, map, not, nat_eq, slice_index, true, unwrap_or};
+ghost use Rattle.std.specs.Prelude.{◌≡◌, ◌<◌, ◌≤◌, length, ◌&&◌, ℕ, ℤ, List, pos, Some, if◌then◌else◌, map, not, nat_eq, slice_index, true, unwrap_or, ◌+ℤ◌};
 ghost use Rattle.std.specs.List.{filter};
-ghost use Rattle.sift_base.specs.Units.{has, holds};
+ghost use Rattle.sift_base.specs.Units.{has, holds, others};
 ghost use Rattle.sift_vote.specs.Majority.{differs as is_other};
 ghost use Rattle.sift_clock.specs.Distance.{IsWithin};
 ghost use Rattle.sift_skew.specs.Limits.{offset_limit};
 ghost use Rattle.sift_mission.specs.Data.{FlownMission};
 ghost use Rattle.sift_mission.specs.Fits.{Fits};
 ghost use Rattle.sift_mission.specs.Parts.{flown_of};
-ghost use Rattle.sift_unit_frame.specs.Memory.{place_at, polled_at, note as note_of};
+ghost use Rattle.sift_unit_frame.specs.Memory.{place_at, polled_at, note as note_of, reading_at, offset_after};
 ghost use Rattle.sift_unit_frame.specs.Conditions.{IsShaped, IsUnitOf, IsOutputOf, IsSensedIn, IsSlotOfFrame, MayNote};
 ghost use Rattle.sift_unit_frame.specs.Memories.{memory_of};
-ghost use Rattle.sift_base.specs.declared.slot.Slot.TheVariants.{Clock, RelaySense, Out, RelayReport};
+ghost use Rattle.sift_base.specs.declared.slots.Slot.TheVariants.{Clock, RelaySense, Out, RelayReport};
+ghost use Rattle.sift_clock.specs.Correction.{is_too_far};
 
 use crate::memory::Memory;
-use crate::readings::{far_clocks, next_offset};
 use arrayvec::ArrayVec;
 use sift_agree::{agree, relay_catches};
-use sift_base::{Slot, UnitId, UnitSet, Word};
+use sift_base::{Slot, UNIT_LIMIT, UnitId, UnitSet, Word};
+use sift_clock::{advance, correction, reading, too_far};
 use sift_config::Config;
 use sift_mission::Mission;
+use sift_skew::offsets_change_little;
 use sift_vote::{differing, majority};
 
 /// A poll of an output word, as a unit takes it.
@@ -30,7 +32,7 @@ struct Poll<'a> {
     /// The word's number.
     word: u8,
     /// What was heard of it, by unit.
-    places: &'a [Option<Word>; 8],
+    places: &'a [Option<Word>; UNIT_LIMIT],
     ghost eight: { length places.now ≡ 8 },
 }
 
@@ -46,7 +48,7 @@ impl Memory {
         frame: u32,
         clk: &i64,
         slot: usize,
-        places: &[Option<Word>; 8],
+        places: &[Option<Word>; UNIT_LIMIT],
     )
         requires slot { IsSlotOfFrame (flown_of mission.now) config.now frame slot }
         requires near { IsWithin offset_limit clk.now (pos 0) }
@@ -74,7 +76,7 @@ impl Memory {
         config: &Config,
         unit: UnitId,
         clk: &i64,
-        places: &[Option<Word>; 8],
+        places: &[Option<Word>; UNIT_LIMIT],
     )
         requires fits { Fits (flown_of mission.now) }
         requires unit { IsUnitOf (flown_of mission.now) config.now unit }
@@ -94,7 +96,7 @@ impl Memory {
         unit: UnitId,
         frame: u32,
         sensor: u8,
-        places: &[Option<Word>; 8],
+        places: &[Option<Word>; UNIT_LIMIT],
     )
         requires fits { Fits (flown_of mission.now) }
         requires sensed { IsSensedIn (flown_of mission.now) sensor frame }
@@ -130,7 +132,7 @@ impl Memory {
         config: &Config,
         unit: UnitId,
         word: u8,
-        places: &[Option<Word>; 8],
+        places: &[Option<Word>; UNIT_LIMIT],
     )
         requires fits { Fits (flown_of mission.now) }
         requires word { IsOutputOf (flown_of mission.now) config.now word }
@@ -185,7 +187,13 @@ impl Memory {
     }
 
     /// Notes the agreed report of a unit.
-    fn note_report(&mut self, config: &Config, unit: UnitId, of: UnitId, places: &[Option<Word>; 8])
+    fn note_report(
+        &mut self,
+        config: &Config,
+        unit: UnitId,
+        of: UnitId,
+        places: &[Option<Word>; UNIT_LIMIT],
+    )
         ensures noted { (m : FlownMission) (f : ℕ) (clk : ℤ) (last : List ℕ) → memory_of self.new ≡ note_of m config.now unit f clk last (RelayReport of) places.now (memory_of self.old) }
         ensures before { self.new.words.before ≡ self.old.words.before }
     {
@@ -195,14 +203,14 @@ impl Memory {
 }
 
 /// The place of a unit.
-pub(crate) fn place_of(places: &[Option<Word>; 8], unit: UnitId) -> Option<Word>
+fn place_of(places: &[Option<Word>; UNIT_LIMIT], unit: UnitId) -> Option<Word>
     ensures { result ≡ place_at places.now unit }
 {
     places[usize::from(unit.get())]
 }
 
 /// The places of these units, in their order.
-fn places_of(units: &[UnitId], places: &[Option<Word>; 8]) -> ArrayVec<Option<Word>, 8>
+fn places_of(units: &[UnitId], places: &[Option<Word>; UNIT_LIMIT]) -> ArrayVec<Option<Word>, 8>
     requires { length units.now ≤ 8 }
     ensures { result.items ≡ map (place_at places.now) units.now }
 {
@@ -228,7 +236,7 @@ fn members_in(config: &Config, set: UnitSet) -> ArrayVec<UnitId, 8>
 }
 
 /// The other units that relayed another word than the own one, or none.
-fn liars(config: &Config, unit: UnitId, own: Word, places: &[Option<Word>; 8]) -> UnitSet
+fn liars(config: &Config, unit: UnitId, own: Word, places: &[Option<Word>; UNIT_LIMIT]) -> UnitSet
     ensures { (v : ℕ) → holds result v ≡ (has config.now v && (not (nat_eq v unit) && is_other (place_at places.now v) (Some own))) }
 {
     let others = members_in(config, config.units().without(unit));
@@ -244,7 +252,7 @@ fn is_third(unit: UnitId, of: UnitId, own: UnitId) -> bool
 
 /// The words of the units other than these two, in their order.
 fn relays_of(
-    places: &[Option<Word>; 8],
+    places: &[Option<Word>; UNIT_LIMIT],
     config: &Config,
     of: UnitId,
     own: UnitId,
@@ -259,4 +267,99 @@ fn relays_of(
         }
     }
     relays
+}
+
+// ---- the other clocks
+
+/// The next offset, by what was heard of the others' clocks.
+fn next_offset(
+    mission: &Mission,
+    config: &Config,
+    unit: UnitId,
+    clk: &i64,
+    places: &[Option<Word>; UNIT_LIMIT],
+) -> i64
+    requires fits { Fits (flown_of mission.now) }
+    requires unit { IsUnitOf (flown_of mission.now) config.now unit }
+    requires near { IsWithin offset_limit clk.now (pos 0) }
+    ensures { result ≡ offset_after (flown_of mission.now) config.now unit clk.now places.now }
+{
+    offsets_change_little();
+    let readings = readings_of(mission, config, unit, clk, places);
+    let mean = correction(&readings, mission.reading_limit(), config.len() as u8);
+    advance(*clk, mean, mission.drift(unit))
+}
+
+/// A unit's readings of the others' clocks, in their order.
+fn readings_of(
+    mission: &Mission,
+    config: &Config,
+    unit: UnitId,
+    clk: &i64,
+    places: &[Option<Word>; UNIT_LIMIT],
+) -> ArrayVec<Option<i32>, 8>
+    requires { IsUnitOf (flown_of mission.now) config.now unit }
+    ensures { result.items ≡ map (reading_at (flown_of mission.now) unit clk.now places.now) (others unit config.now) }
+{
+    let mut readings = ArrayVec::new();
+    for position in 0..config.len() {
+        let other = config.unit_at(position);
+        if other != unit {
+            readings.push(reading_of(mission, unit, clk, places, other));
+        }
+    }
+    readings
+}
+
+/// A unit's reading of another clock.
+fn reading_of(
+    mission: &Mission,
+    unit: UnitId,
+    clk: &i64,
+    places: &[Option<Word>; UNIT_LIMIT],
+    other: UnitId,
+) -> Option<i32>
+    requires own { has (flown_of mission.now).units unit ≡ true }
+    requires other { has (flown_of mission.now).units other ≡ true }
+    ensures { result ≡ reading_at (flown_of mission.now) unit clk.now places.now other }
+{
+    reading(place_of(places, other), *clk, mission.error(unit, other))
+}
+
+/// The other units whose clock is absent or too far away.
+fn far_clocks(
+    mission: &Mission,
+    config: &Config,
+    unit: UnitId,
+    clk: &i64,
+    places: &[Option<Word>; UNIT_LIMIT],
+) -> UnitSet
+    requires { IsUnitOf (flown_of mission.now) config.now unit }
+    ensures { (v : ℕ) → holds result v ≡
+        (has config.now v && (not (nat_eq v unit) && is_too_far ((flown_of mission.now).skew +ℤ (flown_of mission.now).error) (reading_at (flown_of mission.now) unit clk.now places.now v))) }
+{
+    let mut far = UnitSet::empty();
+    for position in 0..config.len() {
+        let other = config.unit_at(position);
+        if is_far(mission, unit, clk, places, other) {
+            far = far.with(other);
+        }
+    }
+    far
+}
+
+/// Whether it is another unit, whose clock is absent or too far away.
+fn is_far(
+    mission: &Mission,
+    unit: UnitId,
+    clk: &i64,
+    places: &[Option<Word>; UNIT_LIMIT],
+    other: UnitId,
+) -> bool
+    requires own { has (flown_of mission.now).units unit ≡ true }
+    requires other { has (flown_of mission.now).units other ≡ true }
+    ensures { result ≡ (not (nat_eq other unit) && is_too_far ((flown_of mission.now).skew +ℤ (flown_of mission.now).error) (reading_at (flown_of mission.now) unit clk.now places.now other)) }
+{
+    let ticks = reading_of(mission, unit, clk, places, other);
+    other != unit && too_far(ticks, mission.reading_limit())
 }

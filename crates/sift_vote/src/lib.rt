@@ -3,12 +3,9 @@
 //! A word that stands in more than half of all places is the result, whatever the other places hold.
 #![tactic(auto)]
 
-mod difference;
-mod laws;
-mod search;
 mod voting;
 
-pub use difference::differing;
-pub use laws::{agreement_is_unique, majority_is_unique, unanimity_is_agreed};
-pub use search::{agreed_word_is_found, majority_is_found};
-pub use voting::majority;
+pub use voting::{
+    agreed_word_is_found, agreement_is_unique, differing, majority, majority_is_found,
+    majority_is_unique, unanimity_is_agreed,
+};

@@ -3,8 +3,7 @@ ghost use Rattle.std.specs.Prelude.{◌≡◌, All, List};
 ghost use Rattle.std.specs.List.{AllZip};
 ghost use Rattle.sift_workers.specs.Going.{IsHome, AtEachPlace};
 
-use crate::bell::Bell;
-use crate::pilot::{Pilot, Went};
+use crate::pilot::{Bell, Pilot, Went};
 use crossbeam_utils::Backoff;
 use std::sync::Wait;
 use std::sync::atomic::{AtomicBool, Ordering};

@@ -3,10 +3,9 @@ ghost use Rattle.std.specs.Prelude.{◌≡◌, ℕ, ◌<◌, ◌≤◌, All, IfO
 ghost use Rattle.std.specs.List.{AllZip};
 ghost use Rattle.sift_workers.specs.Hands.{InHands};
 
-use crate::bell::Bell;
 use crate::dealing::{collect, deal};
 use crate::driving::{drive, drive_home};
-use crate::pilot::Pilot;
+use crate::pilot::{Bell, Pilot};
 use sift_base::NoMemory;
 use std::alloc::{AllocError, Global};
 use std::sync::Wait;

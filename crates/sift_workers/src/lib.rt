@@ -2,12 +2,10 @@
 //! back in their order. What a pilot flies, no worker knows.
 #![tactic(auto)]
 
-mod bell;
 mod dealing;
 mod driving;
 mod flying;
 mod pilot;
 
-pub use bell::Bell;
 pub use flying::fly_all;
-pub use pilot::{NoProbe, Pilot, Probe, Went};
+pub use pilot::{Bell, NoProbe, Pilot, Probe, Went};

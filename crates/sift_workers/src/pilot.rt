@@ -1,8 +1,9 @@
-//! Pilots: what a worker drives, step by step.
+//! Pilots: what a worker drives, step by step; who is told of it, and how threads sleep while they wait for a unit.
 ghost use Rattle.std.specs.Prelude.{◌≡◌};
 ghost use Rattle.sift_workers.specs.Going.{IsHome};
 
 use sift_base::UnitId;
+use std::sync::Wait;
 
 /// What a step came to.
 #[derive(Clone, Copy, PartialEq, Eq)]
@@ -46,6 +47,12 @@ impl Probe for NoProbe {
     fn at(&self, unit: UnitId, subframe: u64) {
         let _ = (unit, subframe);
     }
+}
+
+/// A probe at whose words sleepers wake. No clause depends on what it does.
+pub trait Bell: Probe {
+    /// Sleeps for a bounded time, where the unit's progress number still is the one that was seen.
+    fn sleep_while<H: Wait>(&self, rt: &H, unit: UnitId, seen: u64);
 }
 
 /// One unit's board, with all that it steps on.

@@ -39,11 +39,18 @@ def digits_of(units):
     return "".join(map(str, units))
 
 
+def starts_of(mission):
+    """The offset of each unit's clock in frame 0."""
+    start = mission.clock("start")
+    return [tick.data for tick in start] if start else [0] * mission.units
+
+
 def outline_of(mission):
     """What a schedule has of a mission, in plain values."""
     return {
         "units": mission.units,
-        "skew": mission.clock("skew"),
+        **{name: mission.clock(name) for name in ("skew", "error", "rate")},
+        "start": starts_of(mission),
         "sensors": [[each.get("name").data, [word.data % 65536 for word in each.get("words").data]] for each in mission.sensors],
         "tasks": [[each.get("name").data, mission.words_of(number)] for number, each in enumerate(mission.tasks)],
         "executors": {size: mission.executors(size) for size in range(FEWEST, mission.units + 1)},
@@ -57,6 +64,8 @@ class Schedule:
     def __init__(self, outline, ideal):
         self.units = range(outline["units"])
         self.skew = outline["skew"]
+        # What else is known of the clocks: nothing of a campaign that an earlier tool began.
+        self.error, self.rate, self.start = (outline.get(name) for name in ("error", "rate", "start"))
         self.sensors = outline["sensors"]  # names, with the words that they show
         self.tables = {int(size): executors for size, executors in outline["executors"].items()}
         self.outputs = [(task, word) for task, (_, words) in enumerate(outline["tasks"]) for word in range(words)]

@@ -7,6 +7,7 @@ from itertools import islice
 from sift.campaigns.campaign import Campaign, checksum
 from sift.campaigns.flyer import Flyer, NoFlight
 from sift.campaigns.outcomes import outcome_of
+from sift.campaigns.promised import promises_of
 from sift.campaigns.rows import row_of
 from sift.reports.reading import NoReport, blanked_stretch_of, read_report
 
@@ -51,7 +52,8 @@ class Run:
             flight = read_report(self.report, blanked_stretch_of)
         except NoReport as fault:
             raise self.no_row(fault) from None
-        return row_of(self.number, self.faults, outcome_of(self.faults, flight, last, schedule), self.verdict)
+        outcome = outcome_of(self.faults, flight, last, schedule)
+        return row_of(self.number, self.faults, outcome, self.verdict, promises_of(schedule, self.faults))
 
     def no_row(self, fault):
         return NoRow(f"row {self.number}: {fault}")

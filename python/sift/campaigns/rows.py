@@ -2,9 +2,11 @@
 import math
 
 from sift.campaigns.faults import FAULT
+from sift.campaigns.outcomes import Trace
 from sift.reports.reading import set_of
 
-COLUMNS = ("row", "fault", "said", "caught", "by", "out", "margin", "wrong", "first", "words", "judge", "last")
+COLUMNS = ("row", "fault", "said", "caught", "by", "out", "margin", "wrong", "first", "words", "judge", "last", "promised")
+BEFORE = COLUMNS[:-1]  # those of a campaign that an earlier tool began
 # What can become of a unit that goes wrong, and of a run, from the mildest to the worst.
 FATES = ("inert", "out", "caught by one", "never caught", "margin lost")
 
@@ -14,7 +16,7 @@ def cell(value):
     return "-" if value is None else str(value)
 
 
-def row_of(number, faults, outcome, verdict):
+def row_of(number, faults, outcome, verdict, promises):
     """The row of a run. What is told of two faults stands side by side, with a + between."""
     traces = outcome.traces
     cells = (
@@ -30,6 +32,7 @@ def row_of(number, faults, outcome, verdict):
         ",".join(outcome.words) or "-",
         verdict,
         outcome.last,
+        "+".join(map(str, promises)),
     )
     return "\t".join(cells)
 
@@ -44,26 +47,38 @@ class Row:
     def __init__(self, line):
         cells = dict(zip(COLUMNS, line.split("\t")))
         self.number = int(cells["row"])
+        self.line_of_faults = cells["fault"]
         self.faults = [FAULT.fullmatch(fault) for fault in cells["fault"].split(" + ")]  # unit, slot, kind, begin
         if None in self.faults:
             raise ValueError(cells["fault"])
         self.lost = {"ok": False, "lost": True}[cells["margin"]]
         self.wrong = int(cells["wrong"])
         self.judge = cells["judge"]
-        parts = [cells[name].split("+") for name in ("said", "caught", "out")]
-        self.fates = [self.fate_of(*part) for part in zip(*parts)]
-        outs = [None if out == "-" else int(out) for out in parts[2]]
+        parts = [cells[name].split("+") for name in ("said", "caught", "by", "out")]
+        self.traces = [self.trace_of(*part) for part in zip(*parts)]
+        # Of each fault what is promised of it, or None.
+        told = cells["promised"].split("+") if "promised" in cells else ["-"] * len(self.faults)
+        self.promised = [None if promise == "-" else promise for promise in told]
+        self.fates = [self.fate_of(trace) for trace in self.traces]
         # Of each fault how many frames it took until its unit was out, or None.
-        self.removals = [None if out is None else max(0, out - int(fault[4])) for out, fault in zip(outs, self.faults)]
+        self.removals = [
+            None if trace.out is None else max(0, trace.out - int(fault[4])) for trace, fault in zip(self.traces, self.faults)
+        ]
 
     @staticmethod
-    def fate_of(said, caught, out):
+    def trace_of(said, caught, by, out):
+        """What a run showed of a fault."""
+        caught, out = (None if frame == "-" else int(frame) for frame in (caught, out))
+        return Trace(said != "inert", caught, tuple(int(unit) for unit in by if unit != "-"), out)
+
+    @staticmethod
+    def fate_of(trace):
         """What became of a faulty unit."""
-        if said == "inert":
+        if not trace.said:
             return "inert"
-        if out != "-":
+        if trace.out is not None:
             return "out"
-        return "never caught" if caught == "-" else "caught by one"
+        return "never caught" if trace.caught is None else "caught by one"
 
     @property
     def fate(self):
@@ -89,7 +104,7 @@ class Row:
 def rows_of(text):
     """The rows of a table of runs."""
     lines = text.splitlines()
-    if not lines or lines[0] != "\t".join(COLUMNS):
+    if not lines or lines[0] not in ("\t".join(COLUMNS), "\t".join(BEFORE)):
         raise NoRows("line 1: the names of the columns are due")
     rows = []
     for number, line in enumerate(lines[1:], 2):
@@ -112,3 +127,14 @@ def headlines(rows):
         if some:
             outputs, margins = sum(row.wrong > 0 for row in some), sum(row.lost for row in some)
             yield f"{counted(len(some), 'run', 'runs')} with {name}: an output was lost in {outputs:,}, the margin in {margins:,}"
+
+
+def promised_line(rows):
+    """What is promised of the faults of rows, in words, or None where nothing is."""
+    told = [promise for row in rows for promise in row.promised if promise]
+    parts = [
+        f"{sum(promise.startswith(begin) for promise in told):,} {what}"
+        for begin, what in (("out", "to be out in the next frame"), ("caught", "to be caught by one unit"), ("never", "to be caught by nobody"))
+        if any(promise.startswith(begin) for promise in told)
+    ]
+    return f"promised: {', '.join(parts)}; all else was only seen" if parts else None

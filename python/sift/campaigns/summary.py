@@ -1,7 +1,7 @@
 """The summary of a campaign: its rows in groups, the worst first."""
 import math
 
-from sift.campaigns.rows import headlines
+from sift.campaigns.rows import headlines, promised_line
 
 MOST_GROUPS = 40  # lines of the summary
 
@@ -20,16 +20,30 @@ def groups_of(rows):
     return groups
 
 
+def promise_in(alike):
+    """What is promised of all of some rows, or some of them."""
+    promises = {" + ".join(promise or "-" for promise in map(short, row.promised)) for row in alike}
+    return promises.pop() if len(promises) == 1 else "some"
+
+
+def short(promise):
+    """A promise without its frame."""
+    return promise and promise.split(" ")[0]
+
+
 def summary_of(rows):
     """The lines of the summary."""
     yield from headlines(rows)
+    promised = promised_line(rows)
+    if promised:
+        yield promised
     yield ""
-    yield "  runs  what became of it  wrong words  out after  units     row  fault"
+    yield "  runs  what became of it  promised     wrong words  out after  units     row  fault"
     groups = list(groups_of(rows).items())
     for (_, fate, what), alike in groups[:MOST_GROUPS]:
         worst = alike[0]
         after = "-" if worst.fate == "inert" else "stays" if worst.lasting == math.inf else worst.lasting
         units = "".join(sorted({fault[1] for row in alike for fault in row.faults}))
-        yield f"{len(alike):>6}  {fate:<17}  {worst.wrong:>11}  {after:>9}  {units:<8}  {worst.number:>5}  {what}"
+        yield f"{len(alike):>6}  {fate:<17}  {promise_in(alike):<11}  {worst.wrong:>11}  {after:>9}  {units:<8}  {worst.number:>5}  {what}"
     if len(groups) > MOST_GROUPS:
         yield f"and {len(groups) - MOST_GROUPS:,} groups more, which runs.tsv has"

@@ -13,6 +13,7 @@ from sift.campaigns.engine import Engine
 from sift.campaigns.faults import outline_of
 from sift.campaigns.flyer import DIVIDER, Flyer, NoFlight
 from sift.campaigns.kits import KEPT, can_fly, kit_of, kits_of, new_kit
+from sift.campaigns.promised import contradictions, promises_of
 from sift.campaigns.records import Records, written
 from sift.campaigns.rows import Row, counted
 from sift.campaigns.summary import summary_of
@@ -22,7 +23,7 @@ from sift.files import read_source
 # What flies a batch, and what that stands on.
 MODULES = (
     "__init__",
-    *(f"campaigns/{name}" for name in ("__init__", "campaign", "faults", "flights", "flyer", "outcomes", "rows")),
+    *(f"campaigns/{name}" for name in ("__init__", "campaign", "faults", "flights", "flyer", "outcomes", "promised", "rows")),
     *(f"documents/{name}" for name in ("__init__", "printing", "slots")),
     *(f"reports/{name}" for name in ("__init__", "reading")),
 )
@@ -180,10 +181,20 @@ def end(records, status, begun):
     misjudged = [row for row in rows if row.judge not in ("yes", "-")]
     for row in misjudged:
         print(f"row {row.number}: the program's judge doesn't take the program's report: {row.judge}")
-    print("\n".join(summary_of(rows)))
+    broken = list(unpromised(records.campaign, rows))
+    print(*broken, *summary_of(rows), sep="\n")
     table = os.path.relpath(records.path("runs.tsv"))
     say(f"{time.monotonic() - begun:.1f} s; the flights themselves took {seconds:.1f} s of processor time; {table} has the rows")
-    return 1 if misjudged or any(len(row.faults) == 1 and (row.lost or row.wrong) for row in rows) else 0
+    if broken:
+        say(f"{counted(len(broken), 'outcome contradicts', 'outcomes contradict')} what the contract promises: the clause `caught`, docs/faults.md")
+    return 1 if misjudged or broken or any(len(row.faults) == 1 and (row.lost or row.wrong) for row in rows) else 0
+
+
+def unpromised(campaign, rows):
+    """A line for each outcome that isn't as promised."""
+    for row in rows:
+        for why in contradictions(promises_of(campaign.schedule, campaign.faults[row.number - 1]), row.traces):
+            yield f"row {row.number}: {row.line_of_faults}: {why}"
 
 
 def is_full(folder):

@@ -14,6 +14,7 @@ LOOKS = {
     "margin lost": ("L", "#fc9272", "margin lost"),
 }
 WORST = list(LOOKS)
+PROMISED = "promised"
 
 
 class Cell:
@@ -25,6 +26,7 @@ class Cell:
         self.fate = None  # what became of the fault in it
         self.removal = None  # the most frames to removal
         self.wrong = False  # whether an output was lost in a run in which the slot was said
+        self.promised = True  # whether in each run it is promised: out in the next frame, or never caught
 
     def add(self, row, place):
         """One more run."""
@@ -35,6 +37,7 @@ class Cell:
             self.row, self.badness, self.fate = row, badness, fate
         self.removal = max(filter(None.__ne__, (row.removals[place], self.removal)), default=None)
         self.wrong = self.wrong or said and row.wrong > 0
+        self.promised = self.promised and (row.promised[place] or "").startswith(("out", "never"))
 
     @staticmethod
     def fate_in(row, place):
@@ -46,14 +49,14 @@ class Cell:
         return row.fates[place]
 
     def mark(self):
-        """What stands in it: a * behind it tells that an output was lost."""
+        """What stands in it: a ! behind it tells that it is promised, a * that an output was lost."""
         letter = LOOKS[self.fate][0]
-        return (str(self.removal) if letter is None else letter) + ("*" if self.wrong else "")
+        return (str(self.removal) if letter is None else letter) + ("!" if self.promised else "") + ("*" if self.wrong else "")
 
     def told(self):
         """What became of it, in words."""
         wrong = counted(self.row.wrong, "wrong word", "wrong words")
-        return f"{self.fate}, {wrong} in the run, row {self.row.number}"
+        return f"{self.fate}, {wrong} in the run, row {self.row.number}" + (", promised" if self.promised else "")
 
 
 class Table:
@@ -108,6 +111,8 @@ def key_lines(table):
         letter, _, told = LOOKS[fate]
         if fate in seen:
             yield fate, f"{letter or '1'}  {told}"
+    if any(cell.promised for cell in table.cells.values()):
+        yield PROMISED, "!  promised: out in the next frame, or never caught; all else was only seen"
     if any(cell.wrong for cell in table.cells.values()):
         yield None, "*  behind it: an output was lost (a unit voted another word than `ideal` has)"
 
@@ -174,7 +179,8 @@ def draw_key(page, table, left):
     for fate, line in key_lines(table):
         page.bottom += 26
         mark, told = line.split("  ", 1)
-        fill, edge = (LOOKS[fate][1], "") if fate else ("white", f' stroke="{INK}" stroke-width="2"')
+        fill, thick = (LOOKS[fate][1], 0) if fate in LOOKS else ("white", 2 if fate is None else 0.5)
+        edge = f' stroke="{INK}" stroke-width="{thick}"' if thick else ""
         page.bar(left, page.bottom - 14, COLUMN - 4, BAR, fill, more=edge)
         page.words(left + (COLUMN - 4) / 2, page.bottom + 0.5, mark, 12, ' text-anchor="middle"')
         page.words(left + COLUMN + 6, page.bottom + 0.5, told, 12)

@@ -289,6 +289,89 @@ def shifts(mission):
                 yield Finding(text.place_of_byte(part.place), text.place_of_byte(part.end), why, mend)
 
 
+# Lies that cost nothing. They are told in notes: a mission may have them on purpose.
+
+
+@dataclass
+class Note:
+    """What may be as it ought to, and where it stands."""
+
+    start: int
+    what: str
+
+
+def heard(mission, unit, item, units):
+    """The units of a configuration that hear an item."""
+    sayer, hearer = sayers(mission, *item.slot, units)
+    return item.receivers & hearer - {unit} if unit in sayer else set()
+
+
+def knowers(mission, unit, item, units):
+    """Those that know better. A reader's lie shows where the reader runs a task that reads the sensor."""
+    slot, index = item.slot
+    hearers = heard(mission, unit, item, units)
+    if slot == "relay":
+        return hearers & sayers(mission, "sense", index, units)[0]
+    if slot == "sense":
+        return hearers if any(unit in sayers(mission, "out", task, units)[0] for task in readers_of(mission, index)) else set()
+    return hearers if slot in ("clock", "out") else set()
+
+
+def moments(mission, fault, items):
+    """The items that the unit of a fault may say in a frame, with the working units of its configuration and itself, each once."""
+    unit, begins = fault.get("unit").data, {each.get("unit").data: each.get("from").data for each in mission.faults}
+    seen = set()
+    for frame, several in enumerate(configurations(mission)[fault.get("from").data :], fault.get("from").data):
+        working = {other for other in range(mission.units) if other == unit or begins.get(other, frame + 1) > frame}
+        due = tuple(item.number for item in items if frame in item.frames(mission))
+        for units in several:
+            if unit in units and (due, units, frozenset(working)) not in seen:
+                seen.add((due, units, frozenset(working)))
+                yield [items[number] for number in due], units, working
+
+
+def uncaught(mission):
+    """Faults that no two working units would catch."""
+    for fault in mission.faults:
+        unit, said, most = fault.get("unit").data, False, set()
+        for due, units, working in moments(mission, fault, items_of(fault)):
+            said = said or any(heard(mission, unit, item, units) for item in due)
+            found = set().union(*(knowers(mission, unit, item, units) for item in due))
+            most = max(most, found & working, key=len)
+            if len(most) > 1:
+                break
+        if said and len(most) < 2:
+            who = f"unit {min(most)} alone hears a word that it knows better" if most else "no unit hears a word that it knows better"
+            yield Note(fault.start, f"no two working units would catch unit {unit}: {who}")
+
+
+def readers_of(mission, sensor):
+    """The tasks that read a sensor."""
+    for task in range(len(mission.tasks)):
+        if any(isinstance(part, texts.Sense) and part.sensor == sensor for part in parts_of(mission.statements(task))):
+            yield task
+
+
+def unwatched(mission):
+    """Sensors whose reader runs no task that reads them, in configurations of some sizes."""
+    for number, sensor in enumerate(mission.sensors):
+        tasks = list(readers_of(mission, number))
+        sizes = [
+            size
+            for size in range(FEWEST, mission.units + 1)
+            if all(number % size not in mission.executors(size)[task] for task in tasks)
+        ]
+        if tasks and sizes:
+            name = sensor.get("name")
+            of = " and ".join(map(str, sizes))
+            yield Note(name.start, f"in configurations of {of} the reader of sensor {number}, {name.data}, runs no task that reads it: nobody would catch a lie of it")
+
+
+def notes(mission):
+    """All notes that have a place, in its order."""
+    return sorted(itertools.chain(uncaught(mission), unwatched(mission)), key=lambda each: each.start)
+
+
 LOOKS = [item_findings, unread, unset, spare, never_run, shifts]
 
 

@@ -7,13 +7,16 @@ mission is refused or can't be read. A note is no finding. The tool stands besid
 
 It looks for: items for a slot that their unit doesn't say, in any configuration that there can be, or to units that don't
 hear it; items hidden by earlier ones; sensors that no task reads; words that are never set; subframes to spare; tasks that
-every table sheds; and `>>` on a word that is used as signed. It notes the tasks that no task reads.
+every table sheds; and `>>` on a word that is used as signed. It notes the tasks that no task reads; faults that no two
+working units would catch, as their lies have too few receivers; and sensors whose readers run no task that reads them, so
+that nobody would catch a lie of theirs.
 """
 import sys
 
+from sift.documents import places
 from sift.documents.show import shown
 from sift.files import as_called, read_source, run
-from sift.rules.lint import findings, tasks_for_the_report
+from sift.rules.lint import findings, notes, tasks_for_the_report
 from sift.rules.loading import Refused, load, refusal
 
 
@@ -28,6 +31,9 @@ def lint(name):
     for each in found:
         told = [("mend", each.mend)] if each.mend else []
         print(shown(name, text, each.start, each.end, each.why, told, root), end="")
+    for each in notes(mission):
+        line, column = places.line_and_column(text, each.start)
+        print(f"{name}:{line}:{column}: note: {each.what}")
     outputs = tasks_for_the_report(mission)
     if outputs:
         print(f"{name}: note: read by no other task, and so outputs for the report: {', '.join(outputs)}")

@@ -20,8 +20,8 @@ usage: tools/sweep MISSION [--single] [--pairs] [--kinds LIST] [--from LIST] [--
   --replay ROW     prints the document of a row, a dividing line, and its report
 
 The folder gets runs.tsv, a row a run; standard output a summary, the worst first. docs/campaigns.md tells all of it.
-Status 0; 1 where a single fault lost the margin or an output, or a report wasn't judged right; 2 for other words, or a
-mission that is refused; 9 where something can't be written; 125 where not all was flown.
+Status 0; 1 where a single fault lost the margin or an output, a report wasn't judged right, or a run isn't as promised; 2
+for other words, or a mission that is refused; 9 where something can't be written; 125 where not all was flown.
 """
 import argparse
 import contextlib

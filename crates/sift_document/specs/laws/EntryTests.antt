@@ -9,7 +9,7 @@ use Rattle.sift_base.specs.declared.stop.Stop.TheVariants as stop
 use Rattle.sift_document.specs.Document.{IsArrayOf, entries_of, members_of}
 use Rattle.sift_document.specs.Rules.{HoldsOf, BreaksEntries}
 use Rattle.sift_document.specs.Testing.{RefusesBy, Tests}
-use Rattle.sift_document.specs.declared.rule.BrokenRule.{BrokenRule}
+use Rattle.sift_document.specs.declared.entries.BrokenRule.{BrokenRule}
 use Rattle.sift_document.specs.laws.Places.{map_map}
 
 -- the tables of entries are those that the data of the entries are

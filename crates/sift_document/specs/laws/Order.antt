@@ -5,7 +5,7 @@ use Rattle.sift_base.specs.declared.stop.Stop.{Stop}
 use Rattle.sift_base.specs.declared.stop.Stop.TheVariants as stop
 use Rattle.sift_document.specs.Rules.{AreKept, BreaksFirst, IsKept, Rule}
 use Rattle.sift_document.specs.Testing.{RefusesBy, RefusesFirst, TestsEach}
-use Rattle.sift_document.specs.declared.rule.BrokenRule.{BrokenRule}
+use Rattle.sift_document.specs.declared.entries.BrokenRule.{BrokenRule}
 
 -- ---- the first of some rules
 

@@ -19,16 +19,19 @@ data Rest : ℕ → Term → List Token → Term → List Token → Type 0 where
   none_left : (x : Term) (rest : List Token) → Rest 0 x rest x rest
   some_left : (n : ℕ) (x t : Term) (ts rest : List Token) → IsTail (suc n) x ts t rest → Rest (suc n) x ts t rest
 
+-- what is read behind an operand is lawful for the rest, where the reader of tails is
 go_on_lawful : (n : ℕ) (go : Term → List Token → Outcome Term) → ((x : Term) → Lawful Term (IsTail n x) (go x)) → (x : Term)
     → Lawful Term (Rest n x) (go_on n go x)
 go_on_lawful zero go g x = done Term (Rest zero x) x (none_left x)
 go_on_lawful (suc n) go g x = widened Term (IsTail (suc n) x) (Rest (suc n) x) (go x) (λ ts rest t d. some_left n x t ts rest d) (g x)
 
+-- an operator of the level, an operand and the rest are a tail
 joined_rule : (n : ℕ) (op : Op) (x : Term) → level_of op ≡ n → (ts rest : List Token) (t : Term)
     → Then Term Term (IsLevel (suc n)) (λ y. Rest n (binary op x y)) ts t rest → IsTail n x (Operator op ∷ ts) t rest
 joined_rule n op x at ts rest t (in_turn us mid vs y b d (none_left z ws)) = compared op x y us ws at d
 joined_rule n op x at ts rest t (in_turn us mid vs y b d (some_left m z w us2 vs2 e)) = more (suc m) op x y w us us2 vs2 (omega arith) at d e
 
+-- an operator is taken at its level, and left at each other
 operator_pick : (n : ℕ) (operand : List Token → Outcome Term) (go : Term → List Token → Outcome Term) (x : Term) (op : Op) (b : Bool)
     → (level_of op == n) ≡ b → Lawful Term (IsLevel (suc n)) operand → ((x : Term) → Lawful Term (IsTail n x) (go x))
     → Picks Term (IsTail n x) (λ ts. found x ts) (Operator op)
@@ -40,12 +43,14 @@ operator_pick n operand go x op true is o g =
     (λ y. go_on_lawful n go g (binary op x y))))
 operator_pick n operand go x op false is o g = leaves (λ ts. refl)
 
+-- a tail begins with an operator of its level, and any other token is left
 tail_picks : (n : ℕ) (operand : List Token → Outcome Term) (go : Term → List Token → Outcome Term) → Lawful Term (IsLevel (suc n)) operand
     → ((x : Term) → Lawful Term (IsTail n x) (go x)) → (x : Term) (t : Token)
     → Picks Term (IsTail n x) (λ ts. found x ts) t (λ ts. tail_by n operand go x (t ∷ ts))
 tail_picks n operand go o g x (Operator op) = operator_pick n operand go x op (level_of op == n) refl o g
 tail_picks n operand go o g x t = leaves (λ ts. refl)
 
+-- the reader of tails is lawful, where those of operands and of what follows are
 tail_by-lawful : (n : ℕ) (operand : List Token → Outcome Term) (go : Term → List Token → Outcome Term)
     → Lawful Term (IsLevel (suc n)) operand → ((x : Term) → Lawful Term (IsTail n x) (go x)) → (x : Term)
     → Lawful Term (IsTail n x) (tail_by n operand go x)
@@ -61,6 +66,7 @@ any_level : (n : ℕ) (ts : List Token) (x : Term) (mid : List Token) → n ≤ 
 any_level n ts x mid le p zero e = let same : n ≡ prim_level = omega arith in subst (λ m. IsLevel m ts x mid) (sym same) (a_prim ts mid x p)
 any_level n ts x mid le p (suc k) e = a_chain n ts mid mid x x (omega arith) (any_level (suc n) ts x mid (omega arith) p k (omega arith)) (no_more n x mid)
 
+-- each level has an expression, so what is open can be closed: the number 0
 level-fills : (n : ℕ) → n ≤ prim_level → Goes Term (IsLevel n) []
 level-fills n le =
     record {
@@ -69,14 +75,17 @@ level-fills n le =
       rest = λ r. any_level n (Number 0 ∷ r) (number 0) r le (a_number 0 r) (prim_level - n) (omega arith);
     }
 
+-- an expression of the highest level is a prim
 prim_of : (n : ℕ) (ts rest : List Token) (t : Term) → n ≡ prim_level → IsLevel n ts t rest → IsPrim ts t rest
 prim_of n ts rest t is (a_prim us vs u p) = p
 prim_of n ts rest t is (a_chain m us mid vs x u lt l q) = absurd (omega arith)
 
+-- an operand of the next level and a tail are an expression of a lower level
 chain_rule : (n : ℕ) → n < prim_level → (ts rest : List Token) (t : Term) → Then Term Term (IsLevel (suc n)) (IsTail n) ts t rest
     → IsLevel n ts t rest
 chain_rule n lt ts rest t (in_turn us mid vs x u d e) = a_chain n us mid vs x u lt d e
 
+-- the reader of a level is lawful, where those of the next level and of tails are: a prim at the highest, else a chain
 chosen_lawful : (fuel n : ℕ) (b : Bool) → (n == prim_level) ≡ b → n ≤ prim_level
     → ((n : ℕ) → n ≤ prim_level → Lawful Term (IsLevel n) (read fuel n))
     → ((n : ℕ) (x : Term) → n < prim_level → Lawful Term (IsTail n x) (tail fuel n x))

@@ -4,8 +4,8 @@ use Rattle.sift_lang.specs.declared.tree.Expr.{Expr}
 use Rattle.sift_lang.specs.Tree.{Term, Block, middle, term_of}
 use Rattle.sift_parse.specs.declared.token.Sign.TheVariants.{OpenParen, CloseParen, OpenBrace, CloseBrace, Comma}
 use Rattle.sift_parse.specs.declared.token.Sign as signs
-use Rattle.sift_parse.specs.declared.tokens.ReadStop.{ReadStop}
-use Rattle.sift_parse.specs.declared.tokens.ReadStop.TheVariants.{Syntax, NoMemory}
+use Rattle.sift_parse.specs.declared.token.ReadStop.{ReadStop}
+use Rattle.sift_parse.specs.declared.token.ReadStop.TheVariants.{Syntax, NoMemory}
 use Rattle.sift_parse.specs.declared.token.Token.{Token}
 use Rattle.sift_parse.specs.Reading.{Outcome, found, fault, and_then, read_sign, closed_by, middle_by, read}
 use Rattle.sift_parse.specs.ReadingBlocks.{braced_by, read_block}

@@ -52,6 +52,7 @@ pub data IndexHere : List Token → ℕ → List Token → Type 0 where
 pub data WordHere : List Token → ℕ → List Token → Type 0 where
   is_word : (task w : ℕ) (rest : List Token) → WordHere (Name task ∷ Sign Dot ∷ Index w ∷ rest) w rest
 
+-- the sign that is wanted is taken, and each other is left
 sign_pick : (s u : signs.Sign) (b : Bool) → (number_of s == number_of u) ≡ b
     → Picks (Unit {0}) (SignHere s) (λ ts. fault ts) (Sign u) (λ ts. cond b (found tt ts) (fault (Sign u ∷ ts)))
 sign_pick s u true e =
@@ -132,6 +133,7 @@ closed_lawful A s D R r =
 pub data After (A : Type 0) (s : signs.Sign) (D : Rel A) : List Token → A → List Token → Type 0 where
   after_sign : (ts rest : List Token) (a : A) → D ts a rest → After A s D (Sign s ∷ ts) a rest
 
+-- a sign and what is read behind it are what stands behind a sign
 after_rule : (A : Type 0) (s : signs.Sign) (D : Rel A) (ts rest : List Token) (a : A) → Then (Unit {0}) A (SignHere s) (λ _. D) ts a rest
     → After A s D ts a rest
 after_rule A s D ts rest a (in_turn us mid vs b c (is_sign g m3) d) = after_sign m3 vs c d

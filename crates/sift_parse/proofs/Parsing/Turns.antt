@@ -5,8 +5,8 @@ use Rattle.sift_lang.specs.Tree as tree
 use Rattle.sift_parse.specs.declared.token.Keyword.TheVariants.{Else}
 use Rattle.sift_parse.specs.declared.token.Token.{Token}
 use Rattle.sift_parse.specs.declared.token.Token.TheVariants.{Keyword}
-use Rattle.sift_parse.specs.declared.tokens.ReadStop.{ReadStop}
-use Rattle.sift_parse.specs.declared.tokens.ReadStop.TheVariants.{Syntax, NoMemory}
+use Rattle.sift_parse.specs.declared.token.ReadStop.{ReadStop}
+use Rattle.sift_parse.specs.declared.token.ReadStop.TheVariants.{Syntax, NoMemory}
 use Rattle.sift_parse.specs.Reading.{Outcome, found, fault, and_then, read}
 use Rattle.sift_parse.specs.ReadingBlocks.{braced_by, else_by, if_by, statement_by, block_from, read_block}
 use Rattle.sift_parse.specs.Parsing.{Settles, Reading, NoElse}

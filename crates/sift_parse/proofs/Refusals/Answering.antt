@@ -4,9 +4,9 @@ use Rattle.std.specs.Prelude.{unwrap_or}
 use Rattle.std.proofs.Math.Seq.{drop-length}
 use Rattle.std.proofs.lemmas.List.{append-nil}
 use Rattle.sift_lang.specs.Tree.{Block}
-use Rattle.sift_parse.specs.declared.lexer.Placed as held_placed
-use Rattle.sift_parse.specs.declared.stop.ParseStop.{ParseStop}
-use Rattle.sift_parse.specs.declared.stop.ParseStop.TheVariants as stop
+use Rattle.sift_parse.specs.declared.lexeme.Placed as held_placed
+use Rattle.sift_parse.specs.declared.task.ParseStop.{ParseStop}
+use Rattle.sift_parse.specs.declared.task.ParseStop.TheVariants as stop
 use Rattle.sift_parse.specs.declared.token.Token.{Token}
 use Rattle.sift_parse.specs.Grammar.{IsTask, Begins}
 use Rattle.sift_parse.specs.Lexeme.{Lexeme, Lexes, text_limit}

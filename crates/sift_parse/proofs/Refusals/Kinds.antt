@@ -1,9 +1,9 @@
 -- Refusals by their kinds: what stands at a place for each, and that the first of the list is the first kind.
 use Rattle.std.proofs.Common.{◌≡◌, ◌≢◌, ℕ, zero, suc, ◌-◌, ◌<◌, ◌≤◌, ◌==◌, if◌then◌else◌, inl, inr, List, [], ◌++◌, length, drop, refl, sym, ap, ◌∙◌, subst, arith}
 use Rattle.std.proofs.lemmas.Bool.{cases_lt}
-use Rattle.sift_parse.specs.declared.stop.ParseStop.{ParseStop}
-use Rattle.sift_parse.specs.declared.stop.ParseStop.TheVariants as stop
-use Rattle.sift_parse.specs.declared.stop.Which.TheVariants as which
+use Rattle.sift_parse.specs.declared.task.ParseStop.{ParseStop}
+use Rattle.sift_parse.specs.declared.task.ParseStop.TheVariants as stop
+use Rattle.sift_parse.specs.declared.task.Which.TheVariants as which
 use Rattle.sift_parse.specs.Lexeme.{Lexeme, IsLexeme, Placed, Lexes, text_limit}
 use Rattle.sift_parse.specs.Outcome.{IsStopped}
 use Rattle.sift_parse.specs.Refusal.{IsLongName, IsLargeNumber, IsManyRounds, IsManyLocals, IsDeepLevel, IsUnknownName, IsLaterTask, BeginsWith, IsNoSyntax, refusals_at, FirstGives, lexemes_of, NoneBefore, IsRefused}

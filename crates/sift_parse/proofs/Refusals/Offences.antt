@@ -2,8 +2,8 @@
 use Rattle.std.proofs.Common.{◌≡◌, ℕ, suc, ◌+◌, ◌-◌, ◌<◌, ◌≤◌, Option, Some, None, List, [], ◌∷◌, ◌++◌, length, take, drop, get_or, refl, sym, ap, ◌∙◌, subst, arith, append_assoc, length-append, length-drop}
 use Rattle.std.proofs.Math.Seq.{drop-append_seam, take-append_seam}
 use Rattle.std.proofs.lemmas.List.{append-nil, length-map, length-take-le}
-use Rattle.sift_parse.specs.declared.lexer.Placed as held_placed
-use Rattle.sift_parse.specs.declared.stop.ParseStop.{ParseStop}
+use Rattle.sift_parse.specs.declared.lexeme.Placed as held_placed
+use Rattle.sift_parse.specs.declared.task.ParseStop.{ParseStop}
 use Rattle.sift_parse.specs.declared.token.Token.{Token}
 use Rattle.sift_parse.specs.Grammar.{Begins}
 use Rattle.sift_parse.specs.Force.{Force, at_start, advance, force_after, token_of, tokens_from, tokens_of}

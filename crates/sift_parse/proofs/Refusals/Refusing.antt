@@ -1,6 +1,6 @@
 -- What is refused at a lexeme, where none is before it.
 use Rattle.std.proofs.Common.{◌≡◌, ℕ, ◌-◌, ◌<◌, ◌≤◌, List, [], ◌∷◌, ◌++◌, length, sym, subst, arith}
-use Rattle.sift_parse.specs.declared.refusal.Refusal as held
+use Rattle.sift_parse.specs.declared.scan.Refusal as held
 use Rattle.sift_parse.specs.Grammar.{Begins}
 use Rattle.sift_parse.specs.Force.{force_after}
 use Rattle.sift_parse.specs.Lexeme.{Lexeme, IsLexeme, Placed, Lexes}

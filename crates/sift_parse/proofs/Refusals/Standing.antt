@@ -3,8 +3,8 @@ use Rattle.std.proofs.Common.{◌≡◌, ℕ, inl, inr, List, [], ◌∷◌, ◌
 use Rattle.std.proofs.lemmas.List.{map-append}
 use Rattle.sift_lang.specs.declared.tree.Op.{Op}
 use Rattle.sift_lang.specs.declared.tree.Op.TheVariants.{Add, Sub, Mul, Div, Rem, And, Or, Xor, Shl, Shr, Lt, Eq}
-use Rattle.sift_parse.specs.declared.refusal.Refusal as held
-use Rattle.sift_parse.specs.declared.refusal.Refusal.TheVariants as variant
+use Rattle.sift_parse.specs.declared.scan.Refusal as held
+use Rattle.sift_parse.specs.declared.scan.Refusal.TheVariants as variant
 use Rattle.sift_parse.specs.declared.token.Sign.{Sign}
 use Rattle.sift_parse.specs.declared.token.Sign.TheVariants.{Assign, OpenParen, CloseParen, OpenBrace, CloseBrace, Comma, Dot, Semicolon}
 use Rattle.sift_parse.specs.Grammar.{Begins}

@@ -4,10 +4,10 @@ use Rattle.std.specs.Prelude.{nat_lt}
 use Rattle.std.specs.Option.{option_or}
 use Rattle.std.proofs.lemmas.Bool.{ltb-true, ltb-false}
 use Rattle.std.proofs.Math.Seq.{drop-length}
-use Rattle.sift_parse.specs.declared.refusal.Refusal as held
-use Rattle.sift_parse.specs.declared.refusal.Refusal.TheVariants as variant
-use Rattle.sift_parse.specs.declared.stop.ParseStop.{ParseStop}
-use Rattle.sift_parse.specs.declared.stop.ParseStop.TheVariants as stop
+use Rattle.sift_parse.specs.declared.scan.Refusal as held
+use Rattle.sift_parse.specs.declared.scan.Refusal.TheVariants as variant
+use Rattle.sift_parse.specs.declared.task.ParseStop.{ParseStop}
+use Rattle.sift_parse.specs.declared.task.ParseStop.TheVariants as stop
 use Rattle.sift_parse.specs.declared.token.Token.{Token}
 use Rattle.sift_parse.specs.Grammar.{Begins}
 use Rattle.sift_parse.specs.Force.{tokens_of}

@@ -5,8 +5,8 @@ use Rattle.std.proofs.Math.Numerals.{add-one}
 use Rattle.std.proofs.Math.Seq.{take-suc, drop-cons}
 use Rattle.std.proofs.lemmas.List.{map-append, take-append-drop}
 use Rattle.std.proofs.lemmas.List.Sums.{fold-append}
-use Rattle.sift_parse.specs.declared.lexer.Placed as held_placed
-use Rattle.sift_parse.specs.declared.refusal.Refusal as held
+use Rattle.sift_parse.specs.declared.lexeme.Placed as held_placed
+use Rattle.sift_parse.specs.declared.scan.Refusal as held
 use Rattle.sift_parse.specs.declared.token.Token.{Token}
 use Rattle.sift_parse.specs.Force.{Force, at_start, advance, force_after, token_of, tokens_from, tokens_of}
 use Rattle.sift_parse.specs.Lexeme.{Lexeme, Placed}

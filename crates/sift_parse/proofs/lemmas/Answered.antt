@@ -3,8 +3,8 @@ use Rattle.std.proofs.Common.{◌≡◌, ◌≢◌, ℕ, suc, zero, ◌+◌, ◌
 use Rattle.std.proofs.lemmas.Bool.{cases_lt}
 use Rattle.std.specs.Str.{byte}
 use Rattle.sift_lang.specs.Tree.{TaskTree}
-use Rattle.sift_parse.specs.declared.stop.ParseStop.TheVariants as stop
-use Rattle.sift_parse.specs.declared.stop.Which.TheVariants as which
+use Rattle.sift_parse.specs.declared.task.ParseStop.TheVariants as stop
+use Rattle.sift_parse.specs.declared.task.Which.TheVariants as which
 use Rattle.sift_parse.specs.Answer.{HasAnswer, a_task, a_refusal, NoTextIsUnanswered}
 use Rattle.sift_parse.specs.Lexeme.{Lexeme, Spells, IsLexeme, Placed, Lexes, no_lexeme, is_blank, after_gap, after_comment, text_limit}
 use Rattle.sift_parse.specs.Refusal.{lexemes_of}

@@ -2,9 +2,9 @@
 use Rattle.std.proofs.Common.{◌≡◌, ◌≢◌, ℕ, ◌<◌, ◌≤◌, List, [], ◌∷◌, length, Result, Ok, Err, refl, sym, ap, ◌∙◌, subst, arith}
 use Rattle.sift_lang.specs.declared.tree.Task.{Task}
 use Rattle.sift_lang.specs.Tree.{TaskTree, Block, tree_of}
-use Rattle.sift_parse.specs.declared.stop.ParseStop.{ParseStop}
-use Rattle.sift_parse.specs.declared.stop.ParseStop.TheVariants as stop
-use Rattle.sift_parse.specs.declared.stop.Which.TheVariants as which
+use Rattle.sift_parse.specs.declared.task.ParseStop.{ParseStop}
+use Rattle.sift_parse.specs.declared.task.ParseStop.TheVariants as stop
+use Rattle.sift_parse.specs.declared.task.Which.TheVariants as which
 use Rattle.sift_parse.specs.Grammar.{IsTask}
 use Rattle.sift_parse.specs.Lexeme.{Lexeme, Lexes, text_limit}
 use Rattle.sift_parse.specs.Outcome.{IsTaskOf, Tells}

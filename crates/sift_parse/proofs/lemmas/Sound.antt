@@ -4,7 +4,7 @@ use Rattle.std.proofs.lemmas.List.{length-map}
 use Rattle.std.proofs.lemmas.List.Sums.{fold-append}
 use Rattle.sift_lang.specs.Tree.{Block}
 use Rattle.sift_lang.specs.Sound.{IsSoundBlock}
-use Rattle.sift_parse.specs.declared.names.Names.{Names}
+use Rattle.sift_parse.specs.declared.task.Names.{Names}
 use Rattle.sift_parse.specs.Force.{at_start, advance, force_after}
 use Rattle.sift_parse.specs.Lexeme.{Lexeme, IsLexeme, Placed, Lexes}
 use Rattle.sift_parse.specs.Answer.{HasSize, TaskIsSound}

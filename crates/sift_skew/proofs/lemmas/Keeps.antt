@@ -6,9 +6,14 @@ use Rattle.std.proofs.lemmas.Bool.{cases_Bool, eqb-true, eqb-false}
 use Rattle.std.proofs.Math.Nat.{le_of_mul-le-mul_left, mul-le-mul_left, mul-le-mul_right}
 use Rattle.sift_base.specs.Units.{faulty_count, HasMargin}
 use Rattle.sift_base.specs.laws.Counts.{both_counts, length-has}
-use Rattle.sift_skew.specs.Keeping.{AreTogether, AreWithin, next_offsets, SkewIsKept, SkewIsKeptWithoutFaults, SkewIsKeptWithMargin}
+use Rattle.sift_skew.specs.Keeping.{AreReaders, AreTogether, AreWithin, next_offsets, ReadersAreKeptWithMargin, SkewIsKept, SkewIsKeptWithoutFaults, SkewIsKeptWithMargin}
 use Rattle.sift_skew.proofs.Products.{room}
 use Rattle.sift_skew.proofs.Steps.{step_by_room}
+
+-- the working clocks, within their limits, read one another well
+own_readers : (skew error rate : ℤ) (us : List ℕ) (works : ℕ → Bool) (clock drift : ℕ → ℤ) (read : ℕ → ℕ → Option ℤ)
+    → AreWithin skew error rate us works clock drift read → AreReaders skew error us works works clock read
+own_readers skew error rate us works clock drift read within = record { wider = λ u t. t; together = within.together; readings = within.readings }
 
 -- two working clocks have no negative skew, reading error or drift between them, unless they are one
 kept_from : (P : ℤ → ℤ → ℤ → Type 0) (us : List ℕ) (works : ℕ → Bool) (clock drift : ℕ → ℤ) (read : ℕ → ℕ → Option ℤ)
@@ -55,7 +60,7 @@ skew_is_kept skew error rate us works clock drift read m within few wide =
     let wide_in = room (length us) m s e r room_in in
     let drifts = two_drifts (length us) m s e r (length-has p us p_in) wide_in in
     let parts : s ≡ (s - 2 * r) + 2 * r = omega arith in
-    step_by_room s e r (s - 2 * r) us works clock drift read within_in (omega arith)
+    step_by_room s e r (s - 2 * r) us works works clock drift read (own_readers (pos s) (pos e) (pos r) us works clock drift read within_in) within_in.drifts (omega arith)
     (two_errors (length us) m (faulty_count works us) s e r (s - 2 * r) parts few wide_in) p q p_in p_works q_in q_works)
     skew error rate wide within
 
@@ -75,7 +80,8 @@ skew_is_kept_without_faults skew error rate us works clock drift read within non
     kept_from (λ s e r. (pos 2 *ℤ (e +ℤ r)) ≤ℤ s) us works clock drift read
     (λ s e r room_in within_in.
     let least = no_fault (length us) s e r (omega (arith, ints)) in
-    step_by_room s e r (s - 2 * r) us works clock drift read within_in (omega (arith, ints)) (rw none (omega arith)))
+    step_by_room s e r (s - 2 * r) us works works clock drift read (own_readers (pos s) (pos e) (pos r) us works clock drift read within_in) within_in.drifts
+    (omega (arith, ints)) (rw none (omega arith)))
     skew error rate wide within
 
 -- with five clocks and more, and one faulty, five times as much does
@@ -105,6 +111,17 @@ skew_is_kept_with_margin skew error rate us works clock drift read within margin
     kept_from (λ s e r. (pos 5 *ℤ (e +ℤ r)) ≤ℤ s) us works clock drift read
     (λ s e r room_in within_in.
     let five : 5 * (e + r) ≤ s = omega (arith, ints) in
-    step_by_room s e r (s - 2 * r) us works clock drift read within_in (omega arith)
+    step_by_room s e r (s - 2 * r) us works works clock drift read (own_readers (pos s) (pos e) (pos r) us works clock drift read within_in) within_in.drifts (omega arith)
     (with_margin works us s e r margin five))
     skew error rate wide within
+
+-- so do all who read the working clocks well: no skew, reading error or drift of theirs is negative
+pub readers_are_kept_with_margin : ReadersAreKeptWithMargin
+readers_are_kept_with_margin (pos s) (pos e) (pos r) us reads works clock drift read some readers drifts margin wide =
+    let five : 5 * (e + r) ≤ s = omega (arith, ints) in
+    step_by_room s e r (s - 2 * r) us reads works clock drift read readers drifts (omega arith) (with_margin works us s e r margin five)
+readers_are_kept_with_margin (negsuc s) e r us reads works clock drift read some readers drifts margin wide =
+    λ p q p_in p_reads q_in q_reads. absurd (omega (arith, ints, readers.together p p p_in p_reads p_in p_reads))
+readers_are_kept_with_margin (pos s) (negsuc e) r us reads works clock drift read some readers drifts margin wide = absurd (omega (arith, ints, some))
+readers_are_kept_with_margin (pos s) (pos e) (negsuc r) us reads works clock drift read some readers drifts margin wide =
+    λ p q p_in p_reads q_in q_reads. absurd (omega (arith, ints, drifts p p_in p_reads))

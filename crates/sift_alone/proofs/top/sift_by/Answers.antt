@@ -15,3 +15,11 @@ returns-clause-headline g c = rw (← c.of-fleet.ensures)
     (record { before = g.S.Source.inflow c.args.source.now; after = g.S.Source.inflow c.answer.new.source })
     (record { before = g.K.Sink.outflow c.args.sink.now; after = g.K.Sink.outflow c.answer.new.sink })
     c.answer.result c.answer.ensures.answered)
+
+-- and what lies cost
+pub returns-clause-caught : goal.returns-clause-caught
+returns-clause-caught g c = rw (← c.of-fleet.ensures)
+    (c.the_caught_are_written.ensures c.of-fleet.result (map string_bytes c.args.words.now)
+    (record { before = g.S.Source.inflow c.args.source.now; after = g.S.Source.inflow c.answer.new.source })
+    (record { before = g.K.Sink.outflow c.args.sink.now; after = g.K.Sink.outflow c.answer.new.sink })
+    c.answer.result c.answer.ensures.answered)

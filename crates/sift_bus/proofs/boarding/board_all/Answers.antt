@@ -1,9 +1,9 @@
 use Rattle.std.proofs.Common.{◌≡◌, [], ◌∷◌, ◌++◌, length, length-append, sym, ap, ◌∙◌, arith}
 use Rattle.std.proofs.lemmas.List.{append_assoc}
-use Rattle.sift_base.specs.declared.layout.Layout.{Layout}
+use Rattle.sift_base.specs.declared.slots.Layout.{Layout}
 use Rattle.sift_config.specs.laws.FirstUnits.{low_unit}
 use Rattle.sift_mission.specs.Parts.{flown_of}
-use Rattle.sift_mission.specs.declared.parts.MissionParts.{MissionParts}
+use Rattle.sift_mission.specs.declared.mission.MissionParts.{MissionParts}
 use Rattle.sift_bus.proofs.SeatsTaken.{no_rest, new_token, boarded_long, boarded_before, boarded_push}
 use Rattle.sift_bus.proofs.boarding.board_all.Goals as goal
 

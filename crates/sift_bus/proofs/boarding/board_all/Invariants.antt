@@ -1,6 +1,6 @@
 use Rattle.std.proofs.Common.{◌≡◌, ◌+◌, ◌≤◌, ◌++◌, List, length, vec_capacity}
 use Rattle.sift_mission.specs.Parts.{flown_of}
-use Rattle.sift_ether.specs.declared.token.Token.{Token}
+use Rattle.sift_ether.specs.declared.seat.Token.{Token}
 use Rattle.sift_bus.specs.Boarding.{AreBoarded}
 use Rattle.sift_bus.proofs.boarding.board_all.Given as goal
 

@@ -1,7 +1,7 @@
 use Rattle.std.proofs.Common.{◌≡◌, ℕ, ℤ, pos, take_all, None, add-one, arith, ◌∙◌, w32, w64, to_z, of_z}
 use Rattle.std.proofs.lemmas.Int.{ints, to_z-of_z}
 use Rattle.sift_clock.specs.Correction.{counted, correction_of, counted_sum}
-use Rattle.sift_clock.specs.laws.Sums.{int_sum-take_suc}
+use Rattle.sift_clock.proofs.Sums.{int_sum-take_suc}
 use Rattle.sift_clock.proofs.correcting.correction.Goals as goal
 
 -- one reading more is summed, and it is a number of 32 bits

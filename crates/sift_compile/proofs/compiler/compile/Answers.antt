@@ -2,7 +2,7 @@ use Rattle.std.proofs.Common.{◌≡◌, Err, sym, ap, ◌∙◌, subst, arith}
 use Rattle.sift_code.specs.Bound.{kept, bound_of}
 use Rattle.sift_code.specs.Refusal.{Program}
 use Rattle.sift_lang.specs.Tree.{block_of, tree_of}
-use Rattle.sift_compile.specs.declared.stop.CompileStop.TheVariants.{CodeTooLong}
+use Rattle.sift_compile.specs.declared.compiler.CompileStop.TheVariants.{CodeTooLong}
 use Rattle.sift_compile.specs.Code.{task_code}
 use Rattle.sift_compile.specs.Correct.{Means}
 use Rattle.sift_compile.proofs.Giving.{means_its_task}

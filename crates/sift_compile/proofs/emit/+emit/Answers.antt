@@ -7,7 +7,7 @@ use Rattle.sift_code.specs.Bound.{kept}
 use Rattle.sift_lang.specs.laws.Rounds.{block_of-drop}
 use Rattle.sift_compile.specs.Code.{term_code, behind, statement_code}
 use Rattle.sift_compile.specs.Length.{block_length}
-use Rattle.sift_compile.specs.declared.stop.TheConstants.{CODE_LIMIT}
+use Rattle.sift_compile.specs.declared.compiler.TheConstants.{CODE_LIMIT}
 use Rattle.sift_compile.proofs.Emitted.{kept_same, test_long, instr_long, block_long, choose_emitted, choose_else_emitted, repeat_emitted, rest_room, rest_sound}
 use Rattle.sift_compile.proofs.emit.+emit.Goals as goal
 

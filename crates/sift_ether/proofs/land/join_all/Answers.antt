@@ -2,7 +2,7 @@ use Rattle.std.proofs.Common.{◌≡◌, ◌++◌, ◌∷◌, [], length-append,
 use Rattle.std.proofs.lemmas.List.{append_assoc, map-append}
 use Rattle.std.proofs.lemmas.List.Elements.{All-append}
 use Rattle.sift_buffer.specs.Ledgers.{HasItsWords}
-use Rattle.sift_ether.specs.declared.token.Token.{Token}
+use Rattle.sift_ether.specs.declared.seat.Token.{Token}
 use Rattle.sift_ether.specs.Tokens.{chronicle_in}
 use Rattle.sift_ether.proofs.Lists.{all_one, at_seam}
 use Rattle.sift_ether.proofs.land.join_all.Goals as goal

@@ -1,6 +1,6 @@
 use Rattle.std.proofs.Common.{List, [], ap, ◌∙◌, arith}
 use Rattle.std.proofs.lemmas.Grind.{common_steps}
-use Rattle.sift_ether.specs.declared.deed.Chronicle.{Chronicle}
+use Rattle.sift_ether.specs.declared.rule.Chronicle.{Chronicle}
 use Rattle.sift_ether.specs.TableSeats.{chronicle_of, first_of, rest_of}
 use Rattle.sift_ether.proofs.Dealing.{next_blank}
 use Rattle.sift_ether.proofs.make.deal_next.Goals as goal

@@ -1,6 +1,6 @@
 use Rattle.sift_judge.proofs.ReportLines.{frames_line, no_frames_line, other_frames_line}
 use Rattle.sift_report.specs.Told.{line_at}
-use Rattle.sift_mission.specs.declared.parts.MissionParts.{MissionParts}
+use Rattle.sift_mission.specs.declared.mission.MissionParts.{MissionParts}
 use Rattle.sift_mission.specs.Parts.{data_of}
 use Rattle.std.proofs.Common.{◌≡◌, ◌∙◌, None, Some, ap, subst, sym}
 use Rattle.sift_judge.proofs.form.has_frames_line.Goals as goal

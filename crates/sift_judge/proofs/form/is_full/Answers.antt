@@ -1,4 +1,4 @@
-use Rattle.sift_mission.specs.declared.parts.MissionParts.{MissionParts}
+use Rattle.sift_mission.specs.declared.mission.MissionParts.{MissionParts}
 use Rattle.sift_judge.proofs.Deciding.{no_since}
 use Rattle.std.proofs.Common.{◌∙◌, ap, eq-eqb, eqb-true, sym}
 use Rattle.sift_judge.proofs.form.is_full.Goals as goal

@@ -1,6 +1,6 @@
 use Rattle.std.proofs.Common.{◌≡◌, ◌<◌, ◌∙◌, ap, below_more, length, refl, subst, arith}
 use Rattle.sift_mission.specs.Parts.{data_of}
-use Rattle.sift_mission.specs.declared.parts.MissionParts.{MissionParts}
+use Rattle.sift_mission.specs.declared.mission.MissionParts.{MissionParts}
 use Rattle.sift_judge.specs.Turns.{KeepsBefore, KeepsFrame}
 use Rattle.sift_judge.proofs.InTurn.{first_in_turn, headline}
 use Rattle.sift_judge.proofs.Margins.{had_margin, margin_after, margin_at_first, margin_until}

@@ -1,6 +1,6 @@
 use Rattle.std.proofs.Common.{◌≡◌, ◌∙◌, length, ap, refl, subst, sym}
 use Rattle.sift_mission.specs.Parts.{data_of}
-use Rattle.sift_mission.specs.declared.parts.MissionParts.{MissionParts}
+use Rattle.sift_mission.specs.declared.mission.MissionParts.{MissionParts}
 use Rattle.sift_program.specs.Program.{program_of, IsSoundProgram}
 use Rattle.sift_report.specs.Told.{agreed_told, shed_told}
 use Rattle.sift_judge.proofs.Margins.{agreed_length}

@@ -1,7 +1,7 @@
 use Rattle.sift_judge.proofs.Lists.{one_told}
 use Rattle.sift_judge.proofs.Deciding.{fails, no_where}
 use Rattle.sift_report.specs.Told.{config_told, works_in}
-use Rattle.sift_mission.specs.declared.parts.MissionParts.{MissionParts}
+use Rattle.sift_mission.specs.declared.mission.MissionParts.{MissionParts}
 use Rattle.sift_mission.specs.Parts.{data_of}
 use Rattle.sift_mission.specs.Flown.{word_sensed}
 use Rattle.sift_config.specs.Config.{reader_of}

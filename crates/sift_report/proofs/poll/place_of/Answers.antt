@@ -2,7 +2,7 @@ use Rattle.std.proofs.Common.{◌≡◌, ◌∙◌, get_or, sym, ap}
 use Rattle.std.proofs.lemmas.Bool.{eqb-true, eqb-false}
 use Rattle.std.specs.Prelude.{slice_index}
 use Rattle.sift_base.specs.Layout.{slot_number}
-use Rattle.sift_base.specs.declared.slot.Slot.TheVariants.{Out}
+use Rattle.sift_base.specs.declared.slots.Slot.TheVariants.{Out}
 use Rattle.sift_base.specs.Units.{others}
 use Rattle.sift_buffer.specs.Journals.{heard_in, said_in}
 use Rattle.sift_mission.specs.Parts.{flown_of}

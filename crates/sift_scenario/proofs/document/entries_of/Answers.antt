@@ -33,8 +33,8 @@ returns-in_err-clock-clause-refused c =
     rw same (theme_refused (table_view c.args.document.now) c.in_ok-root.root.units c.in_ok-root.ensures.units 1 c.in_err-clock.field-0.0
     (c.in_ok-root.ensures.tests, c.in_err-clock.ensures.tests))
 
-pub plan_of-requires : goal.plan_of-requires
-plan_of-requires c =
+pub stated_clocks-requires : goal.stated_clocks-requires
+stated_clocks-requires c =
     (between_at least_units unit_limit (get_member (codes "units") (table_view c.args.document.now)) c.in_ok-root.root.units c.in_ok-root.ensures.units).1
 
 -- a rule of the sensors is

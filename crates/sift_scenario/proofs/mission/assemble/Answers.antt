@@ -1,6 +1,6 @@
 use Rattle.std.proofs.Common.{◌≡◌, ℕ, Err, rules, length, refl, ◌∙◌, arith}
 use Rattle.sift_base.specs.Shapes.{shapes_of}
-use Rattle.sift_base.specs.declared.layout.Layout.{Layout}
+use Rattle.sift_base.specs.declared.slots.Layout.{Layout}
 use Rattle.sift_scenario.proofs.Assembling.{layout_read}
 use Rattle.sift_scenario.proofs.Made.{compiled, fits, layout_fits, mission_is, program_sound, refused_script, refused_table, sensors_few, words_few}
 use Rattle.sift_scenario.specs.declared.document.Entries.{Entries}

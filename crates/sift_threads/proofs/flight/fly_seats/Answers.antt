@@ -4,7 +4,7 @@ use denote.Param.Send.{Quiet-if, sendable}
 use denote.Param.{param}
 use denote.Exit.{no, unseen}
 use mir.Syntax.{named, of_param}
-use Rattle.sift_mission.specs.declared.parts.MissionParts.{MissionParts}
+use Rattle.sift_mission.specs.declared.mission.MissionParts.{MissionParts}
 use Rattle.sift_threads.proofs.Home.{home_long}
 use Rattle.sift_threads.proofs.Sent.{seat_send}
 use Rattle.sift_ether.specs.contracts.seat.EtherSeat as EtherSeat

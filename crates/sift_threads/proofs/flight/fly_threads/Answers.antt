@@ -1,6 +1,6 @@
 use Rattle.std.proofs.Common.{refl, subst}
 use Rattle.sift_mission.specs.Parts.{data_of}
-use Rattle.sift_mission.specs.declared.parts.MissionParts.{MissionParts}
+use Rattle.sift_mission.specs.declared.mission.MissionParts.{MissionParts}
 use Rattle.sift_ether.specs.Tokens.{IsMade}
 use Rattle.sift_threads.proofs.Landing.{landed_as_made, landed_round, landed_logged}
 use Rattle.sift_threads.proofs.flight.fly_threads.Goals as goal

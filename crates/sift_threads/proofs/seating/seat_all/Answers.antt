@@ -1,9 +1,9 @@
 use Rattle.std.proofs.Common.{◌≡◌, ℕ, length, drop, sym, ap, ◌∙◌, subst, arith}
 use Rattle.std.specs.Vec.Iter.{into_iter_items}
-use Rattle.sift_base.specs.declared.layout.Layout.{Layout}
+use Rattle.sift_base.specs.declared.slots.Layout.{Layout}
 use Rattle.sift_ether.specs.Tokens.{IsTokenOf}
-use Rattle.sift_ether.specs.declared.token.Token.{Token}
-use Rattle.sift_mission.specs.declared.parts.MissionParts.{MissionParts}
+use Rattle.sift_ether.specs.declared.seat.Token.{Token}
+use Rattle.sift_mission.specs.declared.mission.MissionParts.{MissionParts}
 use Rattle.sift_threads.specs.Crews.{AreSeated}
 use Rattle.sift_threads.proofs.Crews.{is_next, seated_push, all_manned}
 use Rattle.sift_threads.proofs.seating.seat_all.Goals as goal

@@ -6,7 +6,7 @@ use Rattle.sift_flight.specs.Told.{told}
 use Rattle.sift_mission.specs.Parts.{data_of, flown_of}
 use Rattle.sift_line.specs.Line.{text_of_lines}
 use Rattle.sift_report.specs.Sheet.{sheet_of}
-use Rattle.sift_line.specs.declared.version.Version.TheVariants.{Two}
+use Rattle.sift_line.specs.declared.line.Version.TheVariants.{Two}
 use Rattle.sift_bus_jobs.specs.Numbers.{BusNumbers}
 use Rattle.sift_bus_jobs.specs.Text.{words_text}
 use Rattle.sift_bus_jobs.proofs.Counted.{frames_are}

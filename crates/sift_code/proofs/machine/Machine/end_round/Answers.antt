@@ -1,7 +1,7 @@
 use Rattle.std.proofs.Common.{◌≡◌, ℕ, suc, ◌+◌, ◌-◌, ◌<◌, List, refl, ap, ◌∙◌, arith}
 use Rattle.std.specs.Prelude.{slice_index, slice_set}
 use Rattle.sift_code.specs.declared.machine.Machine.{Machine}
-use Rattle.sift_code.specs.declared.work.TheConstants.{LEFTS_AT}
+use Rattle.sift_code.specs.declared.machine.TheConstants.{LEFTS_AT}
 use Rattle.sift_code.specs.Work.{at_place, lefts_start, EndsRound}
 use Rattle.sift_code.proofs.machine.Machine.end_round.Goals as goal
 

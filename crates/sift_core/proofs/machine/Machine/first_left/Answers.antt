@@ -1,6 +1,6 @@
 use Rattle.std.proofs.Common.{◌<◌, ◌≢◌, slice_index, sym, ap, arith}
 use Rattle.std.proofs.lemmas.Bool.{eqb-false}
-use Rattle.sift_base.specs.declared.layout.Layout.{Layout}
+use Rattle.sift_base.specs.declared.slots.Layout.{Layout}
 use Rattle.sift_mission.specs.Parts.{flown_of}
 use Rattle.sift_core.specs.Machines.{layout_of}
 use Rattle.sift_core.proofs.MachineSteps.{unit_below}

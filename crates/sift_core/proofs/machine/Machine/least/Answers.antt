@@ -1,6 +1,6 @@
 use Rattle.std.proofs.Common.{ap, arith}
 use Rattle.std.proofs.lemmas.Grind.{common_steps}
-use Rattle.sift_base.specs.declared.layout.Layout.{Layout}
+use Rattle.sift_base.specs.declared.slots.Layout.{Layout}
 use Rattle.sift_mission.specs.Parts.{flown_of}
 use Rattle.sift_core.proofs.Least.{least_ends}
 use Rattle.sift_core.proofs.machine.Machine.least.Goals as goal

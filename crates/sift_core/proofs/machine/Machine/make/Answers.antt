@@ -1,7 +1,7 @@
 use Rattle.std.proofs.Common.{ap, subst}
 use Rattle.sift_buffer.specs.Core.{Core}
 use Rattle.sift_mission.specs.Parts.{data_of}
-use Rattle.sift_mission.specs.declared.parts.MissionParts.{MissionParts}
+use Rattle.sift_mission.specs.declared.mission.MissionParts.{MissionParts}
 use Rattle.sift_buffer.specs.Racks.{IsNewRack}
 use Rattle.sift_core.proofs.NewMachines.{new_flies, is_new}
 use Rattle.sift_core.proofs.Storming.{first_left}

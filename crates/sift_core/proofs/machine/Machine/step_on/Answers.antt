@@ -30,20 +30,20 @@ returns-in-Landed-clause-storms g c = (landed g.R.Rogue.allows (data_of c.args.m
     c.requires.unit c.requires.under_way c.requires.aloft c.step.ensures.flies c.in-Landed.ensures.stepped).storms
 
 -- it turned, and its storm began
-pub begin_storm-requires-clause-storm : goal.begin_storm-requires-clause-storm
-begin_storm-requires-clause-storm g c = has_storm g.R.Rogue.allows (data_of c.args.mission.now) c.args.u c.args.self.now c.step.new.self c.args.left.now c.args.rogues.now
+pub begin_call-requires-clause-storm : goal.begin_call-requires-clause-storm
+begin_call-requires-clause-storm g c = has_storm g.R.Rogue.allows (data_of c.args.mission.now) c.args.u c.args.self.now c.step.new.self c.args.left.now c.args.rogues.now
     c.requires.unit c.requires.under_way c.requires.aloft c.step.ensures.flies c.in-Turned.ensures.stepped
 
-pub begin_storm-requires-clause-some : goal.begin_storm-requires-clause-some
-begin_storm-requires-clause-some g c = some_left g.R.Rogue.allows (data_of c.args.mission.now) c.args.u c.args.self.now c.step.new.self c.args.left.now c.args.rogues.now
+pub begin_call-requires-clause-some : goal.begin_call-requires-clause-some
+begin_call-requires-clause-some g c = some_left g.R.Rogue.allows (data_of c.args.mission.now) c.args.u c.args.self.now c.step.new.self c.args.left.now c.args.rogues.now
     c.requires.unit c.requires.under_way c.requires.aloft c.step.ensures.flies c.in-Turned.ensures.stepped
 
 pub returns-in-Turned-clause-under_way : goal.returns-in-Turned-clause-under_way
 returns-in-Turned-clause-under_way g c = (turned g.R.Rogue.allows (data_of c.args.mission.now) c.args.u c.args.self.now c.step.new.self c.args.left.now c.args.rogues.now
     c.requires.unit c.requires.under_way c.requires.aloft c.step.ensures.flies c.in-Turned.ensures.stepped
-    c.begin_storm.new.left c.begin_storm.new.rogues c.begin_storm.ensures).way
+    c.begin_call.new.left c.begin_call.new.rogues c.begin_call.ensures).way
 
 pub returns-in-Turned-clause-storms : goal.returns-in-Turned-clause-storms
 returns-in-Turned-clause-storms g c = (turned g.R.Rogue.allows (data_of c.args.mission.now) c.args.u c.args.self.now c.step.new.self c.args.left.now c.args.rogues.now
     c.requires.unit c.requires.under_way c.requires.aloft c.step.ensures.flies c.in-Turned.ensures.stepped
-    c.begin_storm.new.left c.begin_storm.new.rogues c.begin_storm.ensures).storms
+    c.begin_call.new.left c.begin_call.new.rogues c.begin_call.ensures).storms

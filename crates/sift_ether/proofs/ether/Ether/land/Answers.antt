@@ -3,7 +3,7 @@ use Rattle.std.proofs.lemmas.List.{length-map}
 use Rattle.sift_buffer.specs.Journals.{Pages}
 use Rattle.sift_buffer.specs.Lawful.{Lawful}
 use Rattle.sift_buffer.specs.declared.grid.Grid.{Grid}
-use Rattle.sift_ether.specs.declared.token.Token.{Token}
+use Rattle.sift_ether.specs.declared.seat.Token.{Token}
 use Rattle.sift_ether.specs.Landed.{IsJournalFrom}
 use Rattle.sift_ether.specs.Rule.{TellConduct}
 use Rattle.sift_ether.specs.TableSeats.{ranges_at}

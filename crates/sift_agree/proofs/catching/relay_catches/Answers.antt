@@ -1,5 +1,0 @@
-use Rattle.sift_agree.proofs.catching.relay_catches.Goals as goal
-
--- the own word is the vote
-pub returns : goal.returns
-returns c = c.differing.ensures

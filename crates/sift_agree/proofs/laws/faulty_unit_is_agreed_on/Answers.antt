@@ -1,5 +1,0 @@
-use Rattle.sift_agree.specs.laws.Taking.{faulty_unit_is_agreed_on}
-use Rattle.sift_agree.proofs.laws.faulty_unit_is_agreed_on.Goals as goal
-
-pub returns : goal.returns
-returns c = faulty_unit_is_agreed_on

@@ -1,5 +1,0 @@
-use Rattle.sift_agree.specs.laws.Taking.{working_unit_is_agreed_on}
-use Rattle.sift_agree.proofs.laws.working_unit_is_agreed_on.Goals as goal
-
-pub returns : goal.returns
-returns c = working_unit_is_agreed_on

@@ -1,5 +1,0 @@
-use Rattle.sift_base.specs.laws.Sets.{members_are}
-use Rattle.sift_base.proofs.unit_set.members_are_the_set.Goals as goal
-
-pub returns : goal.returns
-returns c = members_are

@@ -1,0 +1,5 @@
+use Rattle.std.proofs.Common.{[]}
+use Rattle.sift_buffer.proofs.port.Port.try_enter.Goals as goal
+
+pub returns-clause-follows : goal.returns-clause-follows
+returns-clause-follows g c = g.met.Self.Look.follows_on _ _ _ [] [] c.find_behind.ensures.follows c.enter.ensures.follows

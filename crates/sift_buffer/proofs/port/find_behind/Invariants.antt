@@ -1,0 +1,11 @@
+use Rattle.std.proofs.Common.{◌≤◌, []}
+use Rattle.sift_buffer.specs.Views.{LooksRound}
+use Rattle.sift_buffer.proofs.port.find_behind.Given as goal
+
+-- each other unit below the number was looked at, and found at the own progress or more
+abbrev pub invariant-loop-number : goal.invariant-loop-number
+invariant-loop-number g l = record {
+  follows : g.L.Look.follows l.fn.port [] l.port;
+  within : l.number ≤ l.units;
+  round : LooksRound (g.L.Look.view l.fn.port) l.number (g.L.Look.view l.port);
+}

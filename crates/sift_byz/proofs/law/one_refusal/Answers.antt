@@ -1,5 +1,0 @@
-use Rattle.sift_byz.proofs.Answered.{one_refusal}
-use Rattle.sift_byz.proofs.law.one_refusal.Goals as goal
-
-pub returns : goal.returns
-returns c = one_refusal

@@ -1,6 +1,0 @@
-use Rattle.std.proofs.Common.{refl}
-use Rattle.sift_byz.proofs.law.rows.Goals as goal
-
--- each row computes
-pub returns : goal.returns
-returns c = (refl, refl, refl, refl, refl)

@@ -1,5 +1,0 @@
-use Rattle.sift_byz.proofs.Entries.{vectors_hold_the_entries}
-use Rattle.sift_byz.proofs.law.vectors_hold_the_entries.Goals as goal
-
-pub returns : goal.returns
-returns c = vectors_hold_the_entries

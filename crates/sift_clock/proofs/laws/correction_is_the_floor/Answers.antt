@@ -1,5 +1,0 @@
-use Rattle.sift_clock.specs.laws.Floors.{correction_is_the_floor}
-use Rattle.sift_clock.proofs.laws.correction_is_the_floor.Goals as goal
-
-pub returns : goal.returns
-returns c = correction_is_the_floor

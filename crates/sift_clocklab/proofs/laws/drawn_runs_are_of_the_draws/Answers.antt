@@ -1,5 +1,0 @@
-use Rattle.sift_clocklab.proofs.DrawnRounds.{drawn_runs_are_of_the_draws}
-use Rattle.sift_clocklab.proofs.laws.drawn_runs_are_of_the_draws.Goals as goal
-
-pub returns : goal.returns
-returns c = drawn_runs_are_of_the_draws

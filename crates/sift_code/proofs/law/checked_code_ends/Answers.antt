@@ -1,6 +1,0 @@
-use Rattle.sift_code.proofs.lemmas.Ending.{sound_ends}
-use Rattle.sift_code.proofs.law.checked_code_ends.Goals as goal
-
--- sound code comes to its end
-pub returns : goal.returns
-returns c = sound_ends

@@ -1,0 +1,6 @@
+use Rattle.std.proofs.Common.{arith}
+use Rattle.std.proofs.lemmas.Grind.{common_steps}
+use Rattle.sift_code.proofs.nest.Walk.start.Goals as goal
+
+pub returns : goal.returns
+returns c = grind (arith, common_steps)

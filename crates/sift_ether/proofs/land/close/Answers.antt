@@ -1,0 +1,6 @@
+use Rattle.sift_ether.specs.TableSeats.{ranges_at}
+use Rattle.sift_ether.proofs.Dealing.{lands}
+use Rattle.sift_ether.proofs.land.close.Goals as goal
+
+pub returns : goal.returns
+returns c = lands (ranges_at c.args.table.shared.key) _ _ _ _ c.close_with-closed.ensures.values.2

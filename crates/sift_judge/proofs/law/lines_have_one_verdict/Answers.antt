@@ -1,5 +1,0 @@
-use Rattle.sift_judge.proofs.Turns as laws
-use Rattle.sift_judge.proofs.law.lines_have_one_verdict.Goals as goal
-
-pub returns : goal.returns
-returns c = laws.one_verdict

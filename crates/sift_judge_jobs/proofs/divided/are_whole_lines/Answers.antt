@@ -1,6 +1,0 @@
-use Rattle.std.proofs.Common.{arith}
-use Rattle.std.proofs.lemmas.Grind.{common_steps}
-use Rattle.sift_judge_jobs.proofs.divided.are_whole_lines.Goals as goal
-
-pub returns-in_default : goal.returns-in_default
-returns-in_default c = grind (arith, common_steps)

@@ -1,5 +1,0 @@
-use Rattle.sift_parse.proofs.lemmas.Answered.{no_text_is_unanswered}
-use Rattle.sift_parse.proofs.unique.no_text_is_unanswered.Goals as goal
-
-pub returns : goal.returns
-returns c = no_text_is_unanswered

@@ -1,5 +1,0 @@
-use Rattle.sift_parse.proofs.Parsing.Whole.{one_tree}
-use Rattle.sift_parse.proofs.unique.one_tree.Goals as goal
-
-pub returns : goal.returns
-returns c = one_tree

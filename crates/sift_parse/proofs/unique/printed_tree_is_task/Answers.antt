@@ -1,5 +1,0 @@
-use Rattle.sift_parse.proofs.Printing.Law.{printed_tree_is_task}
-use Rattle.sift_parse.proofs.unique.printed_tree_is_task.Goals as goal
-
-pub returns : goal.returns
-returns c = printed_tree_is_task

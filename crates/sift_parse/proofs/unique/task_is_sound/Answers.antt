@@ -1,5 +1,0 @@
-use Rattle.sift_parse.proofs.lemmas.Sound.{task_is_sound}
-use Rattle.sift_parse.proofs.unique.task_is_sound.Goals as goal
-
-pub returns : goal.returns
-returns c = task_is_sound

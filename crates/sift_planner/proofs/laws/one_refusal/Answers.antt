@@ -1,5 +1,0 @@
-use Rattle.sift_planner.proofs.Plans as laws
-use Rattle.sift_planner.proofs.laws.one_refusal.Goals as goal
-
-pub returns : goal.returns
-returns c = laws.one_refusal

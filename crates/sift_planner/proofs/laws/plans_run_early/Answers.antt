@@ -1,5 +1,0 @@
-use Rattle.sift_planner.proofs.Room as laws
-use Rattle.sift_planner.proofs.laws.plans_run_early.Goals as goal
-
-pub returns : goal.returns
-returns c = laws.plans_run_early

@@ -1,5 +1,0 @@
-use Rattle.sift_program.proofs.SoundShapes.{sound_shapes}
-use Rattle.sift_program.proofs.shapes.sound_programs_have_shapes.Goals as goal
-
-pub returns : goal.returns
-returns c = sound_shapes

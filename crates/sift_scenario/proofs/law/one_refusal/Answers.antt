@@ -1,5 +1,0 @@
-use Rattle.sift_scenario.proofs.UniqueRefusals as laws
-use Rattle.sift_scenario.proofs.law.one_refusal.Goals as goal
-
-pub returns : goal.returns
-returns c = laws.one_refusal

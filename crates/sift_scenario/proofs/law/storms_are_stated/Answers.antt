@@ -1,5 +1,0 @@
-use Rattle.sift_scenario.proofs.Storming.{stated_storms}
-use Rattle.sift_scenario.proofs.law.storms_are_stated.Goals as goal
-
-pub returns : goal.returns
-returns c = stated_storms

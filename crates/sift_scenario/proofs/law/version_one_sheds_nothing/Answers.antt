@@ -1,5 +1,0 @@
-use Rattle.sift_scenario.proofs.Unshed.{unshed}
-use Rattle.sift_scenario.proofs.law.version_one_sheds_nothing.Goals as goal
-
-pub returns : goal.returns
-returns c = unshed

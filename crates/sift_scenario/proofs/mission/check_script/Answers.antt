@@ -1,0 +1,12 @@
+use Rattle.sift_scenario.proofs.mission.check_script.Goals as goal
+
+-- the script is good
+pub returns-in-Ok-clause-same : goal.returns-in-Ok-clause-same
+returns-in-Ok-clause-same c = c.in-Ok.ensures.same
+
+pub returns-in-Ok-clause-good : goal.returns-in-Ok-clause-good
+returns-in-Ok-clause-good c = c.in-Ok.ensures.good
+
+-- it isn't
+pub returns-in-Err-clause-refused : goal.returns-in-Err-clause-refused
+returns-in-Err-clause-refused c = rw (c.from.ensures, c.from-in-Err.ensures) c.in-Err.ensures.broken

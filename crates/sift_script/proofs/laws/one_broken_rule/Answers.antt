@@ -1,5 +1,0 @@
-use Rattle.sift_script.proofs.lemmas.Refusals as laws
-use Rattle.sift_script.proofs.laws.one_broken_rule.Goals as goal
-
-pub returns : goal.returns
-returns c = laws.one_broken_rule

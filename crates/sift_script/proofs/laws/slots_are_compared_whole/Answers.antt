@@ -1,5 +1,0 @@
-use Rattle.sift_script.proofs.Slots as laws
-use Rattle.sift_script.proofs.laws.slots_are_compared_whole.Goals as goal
-
-pub returns : goal.returns
-returns c = laws.slots_are_compared_whole

@@ -1,5 +1,0 @@
-use Rattle.sift_skew.proofs.Ceilings.{ceiling_fits_exactly_where}
-use Rattle.sift_skew.proofs.laws.ceiling_fits_exactly_where.Goals as goal
-
-pub returns : goal.returns
-returns c = ceiling_fits_exactly_where

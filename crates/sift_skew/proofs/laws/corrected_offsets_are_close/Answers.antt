@@ -1,5 +1,0 @@
-use Rattle.sift_skew.proofs.Ceilings.{corrected_offsets_are_close}
-use Rattle.sift_skew.proofs.laws.corrected_offsets_are_close.Goals as goal
-
-pub returns : goal.returns
-returns c = corrected_offsets_are_close

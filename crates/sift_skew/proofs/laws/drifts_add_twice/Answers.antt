@@ -1,5 +1,0 @@
-use Rattle.sift_skew.proofs.Steps.{drifts_add_twice}
-use Rattle.sift_skew.proofs.laws.drifts_add_twice.Goals as goal
-
-pub returns : goal.returns
-returns c = drifts_add_twice

@@ -1,5 +1,0 @@
-use Rattle.sift_skew.proofs.lemmas.Changes.{offsets_change_little}
-use Rattle.sift_skew.proofs.laws.offsets_change_little.Goals as goal
-
-pub returns : goal.returns
-returns c = offsets_change_little

@@ -1,5 +1,0 @@
-use Rattle.sift_table.proofs.Executors as laws
-use Rattle.sift_table.proofs.laws.tasks_have_three_executors.Goals as goal
-
-pub returns : goal.returns
-returns c = laws.tasks_have_three_executors

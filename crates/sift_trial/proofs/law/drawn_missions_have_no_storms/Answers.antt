@@ -1,5 +1,0 @@
-use Rattle.sift_trial.proofs.Calm.{calm}
-use Rattle.sift_trial.proofs.law.drawn_missions_have_no_storms.Goals as goal
-
-pub returns : goal.returns
-returns c = calm

@@ -1,5 +1,0 @@
-use Rattle.sift_trial.proofs.DrawnTexts.{drawn_texts_are_tasks}
-use Rattle.sift_trial.proofs.texts.drawn_texts_are_tasks.Goals as goal
-
-pub returns : goal.returns
-returns c = drawn_texts_are_tasks c.printed_tree_is_task.ensures

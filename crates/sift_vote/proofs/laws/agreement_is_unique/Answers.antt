@@ -1,5 +1,0 @@
-use Rattle.sift_vote.specs.laws.Votes.{agreement_is_unique}
-use Rattle.sift_vote.proofs.laws.agreement_is_unique.Goals as goal
-
-pub returns : goal.returns
-returns c = agreement_is_unique

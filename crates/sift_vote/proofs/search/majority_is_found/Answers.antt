@@ -1,5 +1,0 @@
-use Rattle.sift_vote.specs.laws.Found.{majority_is_found}
-use Rattle.sift_vote.proofs.search.majority_is_found.Goals as goal
-
-pub returns : goal.returns
-returns c = majority_is_found
