@@ -7,8 +7,10 @@ import threading
 from pathlib import Path
 
 import pytest
+from hypothesis import given, settings, strategies
 
 import sift
+from conftest import asked_here
 from sift import callers, commands, where
 from sift.refusal import parts_of
 
@@ -114,6 +116,21 @@ def test_other_refusals(caller):
 def test_a_path_as_a_string_is_said_to_be_one():
     with pytest.raises(TypeError, match="pathlib.Path"):
         commands.bytes_of("missions/count.toml")
+
+
+@settings(max_examples=12, deadline=None)
+@given(number=strategies.integers(0, 2**64 - 1), order=strategies.integers(0, 2**64 - 1))
+def test_drawn_missions_fly_alike(number, order):
+    """By the library and by the program, in whatever order; and the judge takes the report."""
+    drawn, reports = set(), set()
+    for each in asked_here():
+        if each.values[0]:
+            callers.use(each.values[0])
+            drawn.add(sift.gen(number).text)
+            reports.add(sift.run(sift.gen(number), order=order))
+            assert all(sift.judge(sift.gen(number), report) for report in reports)
+            assert {sift.trial(number).text} == {report.text.splitlines(keepends=True)[-1] for report in reports}
+    assert len(drawn) < 2 and len(reports) < 2
 
 
 # The library.
