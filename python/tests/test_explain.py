@@ -45,10 +45,10 @@ def told_by(path):
 
 
 def values_of(raw):
-    """What Python reads in a document, or None."""
+    """What Python reads in a document, or None, as of one that is nested too deeply for it."""
     try:
         return tomllib.loads(raw.decode())
-    except (tomllib.TOMLDecodeError, UnicodeDecodeError):
+    except (tomllib.TOMLDecodeError, UnicodeDecodeError, RecursionError):
         return None
 
 
