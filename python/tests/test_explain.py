@@ -45,10 +45,10 @@ def told_by(path):
 
 
 def values_of(raw):
-    """What Python reads in a document, or None, as of one that is nested too deeply for it."""
+    """What Python reads in a document, or None."""
     try:
         return tomllib.loads(raw.decode())
-    except (tomllib.TOMLDecodeError, UnicodeDecodeError, RecursionError):
+    except (tomllib.TOMLDecodeError, UnicodeDecodeError):
         return None
 
 
