@@ -24,5 +24,5 @@ def test_a_row_for_each_value(tmp_path):
 def test_what_is_not_flown_is_said(tmp_path):
     program = stand_in(tmp_path, "exit 3")
     assert tool("growth", "--program", program)[1:] == (f"growth: {program} ends with status 3\n", 1)
-    assert tool("growth", "--program", tmp_path / "none", "--runs", 1)[1:] == (f"growth: [Errno 2] No such file or directory: '{tmp_path}/none'\n", 1)
+    assert tool("growth", "--program", tmp_path / "none", "--runs", 1)[1:] == (f"growth: {tmp_path}/none: No such file or directory\n", 1)
     assert tool("growth", "--runs", "many")[2] == 2
