@@ -1,10 +1,18 @@
 /** The table of a campaign: slots by units, for each way of lying, each cell a link to the flight of its worst run. */
 import { LOOKS, changeOf } from "./cells.js";
 import { element } from "./elements.js";
+import { heads, tableRow } from "./parts.js";
+import { KINDS } from "./slots.js";
 
 /** @typedef {import("./cells.js").Cell} Cell */
 /** @typedef {import("./cells.js").Look} Look */
 /** @typedef {import("./cells.js").Table} Table */
+
+/**
+ * What a cell's link does: `open` shows the flight of a row, and `point` gives the link its address, where one comes to it. An
+ * address has a whole document in it, so that not all cells have theirs at once.
+ * @typedef {{open: (row: number, event: MouseEvent) => void, point: (row: number, link: HTMLAnchorElement) => void}} Links
+ */
 
 /**
  * The signs of changes, which no colour is needed to tell apart.
@@ -18,8 +26,23 @@ export const CHANGES = {
   gone: ["−", "only before"],
 };
 
+const LOST = "an output was lost: a unit voted another word than the ideal machine";
+
 /** @param {Look} look */
 const classOf = (look) => `end-${look.replaceAll(" ", "-")}`;
+
+/**
+ * The mark of a cell, which opens its flight.
+ * @param {Cell} cell
+ * @param {string} words
+ * @param {Links} links
+ */
+function linkOf({ row: { number }, mark }, words, { open, point }) {
+  const onclick = (/** @type {MouseEvent} */ event) => open(number, event);
+  const link = element("a", { href: "#campaign", "aria-label": words, title: words, onclick }, mark);
+  for (const coming of ["pointerenter", "focus"]) link.addEventListener(coming, () => point(number, link), { once: true });
+  return link;
+}
 
 /**
  * A cell: its mark, which opens its flight; and before it, where campaigns are compared and it differs, the mark of before.
@@ -27,30 +50,37 @@ const classOf = (look) => `end-${look.replaceAll(" ", "-")}`;
  * @param {Cell | undefined} cell
  * @param {Cell | undefined} before
  * @param {boolean} compares
- * @param {(row: number, event: MouseEvent) => void} open
+ * @param {Links} links
  */
-function cellOf(where, cell, before, compares, open) {
+function cellOf(where, cell, before, compares, links) {
   const change = compares ? changeOf(before, cell) : null;
   if (!cell && !before) return element("td", {});
   const [sign, told] = change ? CHANGES[change] : ["", ""];
   const earlier = change && change !== "same" && before ? element("span", { class: "before" }, `${before.mark} →`) : null;
   if (!cell) return element("td", { class: "gone" }, earlier, sign);
   const words = `${where}: ${cell.words}${told ? `; ${told}` : ""}`;
-  const { number } = cell.row;
-  const link = element("a", { href: "#campaign", "data-row": number, "aria-label": words, title: words, onclick: (/** @type {MouseEvent} */ event) => open(number, event) }, cell.mark);
-  return element("td", { class: `${classOf(cell.look)}${cell.wrong ? " wrong" : ""}${change ? ` ${change}` : ""}` }, earlier, link, sign ? element("span", { class: "change-sign", "aria-hidden": "true" }, ` ${sign}`) : null);
+  const link = linkOf(cell, words, links);
+  const shown = sign ? element("span", { class: "change-sign", "aria-hidden": "true" }, ` ${sign}`) : null;
+  return element("td", { class: [classOf(cell.look), cell.wrong && "wrong", change].filter(Boolean).join(" ") }, earlier, link, shown);
 }
 
 /**
  * The tables of all ways of lying.
  * @param {Table} table
  * @param {Table | null} before what it is compared with
- * @param {(row: number, event: MouseEvent) => void} open
+ * @param {Links} links
  */
-export function tablesOf(table, before, open) {
+export function tablesOf(table, before, links) {
   const slots = [...table.slots, ...(before?.slots.filter((slot) => !table.slots.includes(slot)) ?? [])];
-  const kinds = before && before.kinds.length > table.kinds.length ? before.kinds : table.kinds;
+  const kinds = KINDS.filter((kind) => table.kinds.includes(kind) || before?.kinds.includes(kind));
   const units = before && before.units.length > table.units.length ? before.units : table.units;
+  /**
+   * @param {string} slot
+   * @param {string} kind
+   * @param {number} unit
+   */
+  const cell = (slot, kind, unit) =>
+    cellOf(`unit ${unit}, ${slot}, ${kind}`, table.at(slot, kind, unit), before?.at(slot, kind, unit), before !== null, links);
   return kinds.map((kind) =>
     element(
       "div",
@@ -59,19 +89,8 @@ export function tablesOf(table, before, open) {
         "table",
         { class: `campaign${before ? " compared" : ""}` },
         element("caption", {}, kind),
-        element("thead", {}, element("tr", {}, element("th", { scope: "col" }, "unit"), ...units.map((unit) => element("th", { scope: "col" }, unit)))),
-        element(
-          "tbody",
-          {},
-          ...slots.map((slot) =>
-            element(
-              "tr",
-              {},
-              element("th", { scope: "row" }, slot),
-              ...units.map((unit) => cellOf(`unit ${unit}, ${slot}, ${kind}`, table.at(slot, kind, unit), before?.at(slot, kind, unit), before !== null, open)),
-            ),
-          ),
-        ),
+        heads(["unit", ...units]),
+        element("tbody", {}, ...slots.map((slot) => tableRow(slot, units.map((unit) => cell(slot, kind, unit))))),
       ),
     ),
   );
@@ -89,7 +108,7 @@ export function keyOf(table, compares) {
     "ul",
     { class: "key campaign-key", "aria-label": "What the marks mean" },
     ...table.looks.map((look) => element("li", {}, element("span", { class: `swatch ${classOf(look)}` }, LOOKS[look][0] ?? "1"), LOOKS[look][1])),
-    wrong && element("li", {}, element("span", { class: "swatch wrong" }, "*"), "an output was lost: a unit voted another word than the ideal machine"),
+    wrong && element("li", {}, element("span", { class: "swatch wrong" }, "*"), LOST),
     ...changes.map(([sign, words]) => element("li", {}, element("span", { class: "swatch" }, sign), words)),
   );
 }

@@ -12,7 +12,7 @@ const FIRST = [
   ["past_the_margin", "three at once: margin lost"],
   ["stray_writer", "a unit that runs wild"],
   ["shed_display", "a task is shed"],
-  ["rudder", "placed tables"],
+  ["rudder", "a lying reader, never caught"],
 ];
 
 /**
@@ -60,5 +60,6 @@ export function start(section, { store }) {
 
   store.subscribe((state) => {
     select.value = missions[state.name] === state.text ? state.name : "";
+    document.title = `${state.name} – sift`;
   });
 }
