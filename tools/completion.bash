@@ -57,14 +57,14 @@ _sift_plotted() {
 _sift_tool() {
   local word=${COMP_WORDS[COMP_CWORD]} options=--help
   case ${COMP_WORDS[COMP_CWORD - 1]} in
-    --kinds) mapfile -t COMPREPLY < <(compgen -W 'wrong silence two-faces' -- "$word"); return ;;
+    --kinds) mapfile -t COMPREPLY < <(compgen -W 'wrong silence two-faces flip stuck offset drift intermittent' -- "$word"); return ;;
     --plot) _sift_plotted "$word"; return ;;
     --from | --limit | --batch | --jobs | --sshlogin | --replay | --frames | --seconds | --size) COMPREPLY=(); return ;;
   esac
   case ${COMP_WORDS[0]##*/} in
-    sift-picture) options+=' --text --frames --schedule --sweep' ;;
+    sift-picture) options+=' --text --frames --schedule --sweep --before' ;;
     sift-place) options+=' --write --seconds --picture --sweep --to-csv --from-csv --size --program' ;;
-    sift-sweep) options+=' --single --pairs --kinds --from --limit --out --program --batch --jobs --sshlogin --resume --overwrite --replay' ;;
+    sift-sweep) options+=' --single --pairs --kinds --from --limit --out --program --batch --jobs --sshlogin --resume --overwrite --replay --values --keep --random --number --require --reduce --compare --slurm --json --junit' ;;
     sift-words) options+=' --json --plot --names --unjudged' ;;
   esac
   if [[ $word == -* ]]; then

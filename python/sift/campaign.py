@@ -99,14 +99,27 @@ class Campaign:
         document, _, report = swept(["--replay", str(row), "--out", self.folder])[0].partition(DIVIDER)
         return Mission(document), Report(report, document.encode())
 
-    def picture(self) -> str:
-        """The drawing of its runs: an SVG."""
-        from sift.tools.picture import sweep_of
+    def smallest(self, row: int) -> Mission:
+        """The smallest mission that loses what a row loses. NotFlown tells where that is nothing."""
+        from sift.mission import Mission
 
-        path = os.path.join(self.folder, "runs.tsv")
-        with open(path, "rb") as file:
-            drawn, drawing = sweep_of(file.read(), path)
+        return Mission(swept(["--reduce", str(row), "--out", self.folder])[0])
+
+    def compared(self, before: Campaign) -> str:
+        """What got worse and what got better since a campaign before, in lines."""
+        return swept(["--compare", before.folder, self.folder])[0]
+
+    def picture(self, before: Optional[Campaign] = None) -> str:
+        """The drawing of its runs, or of what got better and what got worse since a campaign before: an SVG."""
+        from sift.tools.picture import campaigns_of
+
+        drawn, drawing = campaigns_of(self.table, before.table if before else None)
         return str(drawing.svg_of(drawn))
+
+    @property
+    def table(self) -> str:
+        """The path of its runs.tsv."""
+        return os.path.join(self.folder, "runs.tsv")
 
     def _repr_svg_(self) -> str:
         return self.picture()

@@ -1,4 +1,5 @@
 """The commands as functions: the library and the program answer as the cases say, and each answer is a value or its refusal."""
+import os
 import pickle
 import subprocess
 import sys
@@ -6,8 +7,10 @@ import threading
 from pathlib import Path
 
 import pytest
+from hypothesis import given, settings, strategies
 
 import sift
+from conftest import asked_here
 from sift import callers, commands, where
 from sift.refusal import parts_of
 
@@ -115,6 +118,21 @@ def test_a_path_as_a_string_is_said_to_be_one():
         commands.bytes_of("missions/count.toml")
 
 
+@settings(max_examples=12, deadline=None)
+@given(number=strategies.integers(0, 2**64 - 1), order=strategies.integers(0, 2**64 - 1))
+def test_drawn_missions_fly_alike(number, order):
+    """By the library and by the program, in whatever order; and the judge takes the report."""
+    drawn, reports = set(), set()
+    for each in asked_here():
+        if each.values[0]:
+            callers.use(each.values[0])
+            drawn.add(sift.gen(number).text)
+            reports.add(sift.run(sift.gen(number), order=order))
+            assert all(sift.judge(sift.gen(number), report) for report in reports)
+            assert {sift.trial(number).text} == {report.text.splitlines(keepends=True)[-1] for report in reports}
+    assert len(drawn) < 2 and len(reports) < 2
+
+
 # The library.
 
 needs_library = pytest.mark.skipif(not where.library(), reason="the library isn't built: tools/library makes it")
@@ -172,6 +190,31 @@ def test_want_of_memory_is_an_exception_and_the_library_goes_on():
     ended = subprocess.run([sys.executable, "-c", code], capture_output=True, text=True, check=True)
     wanting, length = map(int, ended.stdout.split())
     assert wanting > 0 and length == len(Path("missions/eight_units.report").read_bytes())
+
+
+def test_what_is_asked(monkeypatch, tmp_path):
+    """What is named by the environment counts; and the program where the library is older, and of other sources."""
+    monkeypatch.setattr(where, "HOME", str(tmp_path))
+    monkeypatch.setattr(where, "BUILT", str(tmp_path / "out" / "sift"))
+    for name in ("SIFT_LIBRARY", "SIFT_PROGRAM"):
+        monkeypatch.delenv(name, raising=False)
+    built = tmp_path / "out"
+    built.mkdir()
+    assert where.library() is None and callers.built() is None
+    for name in ("sift", "libsift.so", "sift.sources", "library.sources"):
+        (built / name).write_text("1234\n")
+    (built / "sift").chmod(0o755)
+    assert where.library() == str(built / "libsift.so")
+    os.utime(built / "libsift.so", (1, 1))
+    assert where.library() == str(built / "libsift.so")
+    (built / "sift.sources").write_text("5678\n")
+    assert where.library() is None and callers.built().path == str(built / "sift")
+    monkeypatch.setenv("SIFT_LIBRARY", "a library")
+    assert where.library() == "a library"
+    monkeypatch.delenv("SIFT_LIBRARY")
+    os.utime(built / "libsift.so")
+    monkeypatch.setenv("SIFT_PROGRAM", "/a/program")
+    assert where.library() is None and where.program() == "/a/program"
 
 
 def test_what_is_no_library_or_program_is_said(tmp_path):

@@ -45,10 +45,10 @@ def told_by(path):
 
 
 def values_of(raw):
-    """What Python reads in a document, or None."""
+    """What Python reads in a document, or None; so it is of one that is nested too deep for it."""
     try:
         return tomllib.loads(raw.decode())
-    except (tomllib.TOMLDecodeError, UnicodeDecodeError):
+    except (tomllib.TOMLDecodeError, UnicodeDecodeError, RecursionError):
         return None
 
 
@@ -68,7 +68,8 @@ def fault_of(name, raw, line, status):
     except places.NotADocument as refused:
         if status != 3:
             return f"it is read as no document: {refused.why}"
-        return "it is a document for Python" if tomllib and values_of(raw) is not None and name not in DIFFERENT else None
+        alike = tomllib and name not in DIFFERENT and "nested deeper than 80" not in refused.why  # Python's reader goes deeper
+        return "it is a document for Python" if alike and values_of(raw) is not None else None
     if status == 3:
         return "it is read as a document"
     if tomllib and values_of(raw) != as_python_reads(places.plain(root)):

@@ -72,6 +72,33 @@ def test_tools_are_commands(environment, name, tmp_path):
     assert helped.split("usage:")[0] == tool(name, "--help")[0].split("usage:")[0]
 
 
+EXPLAINED = """
+import sys
+from pathlib import Path
+import sift
+for path in map(Path, sys.argv[1:]):
+    try:
+        sift.run(path)
+    except sift.Refusal as refusal:
+        assert refusal.shown(str(path)) == path.with_suffix(".txt").read_text().split("\\n", 1)[1], path
+try:
+    sift.byz("units = 3\\nm = 1\\nvalues = [1, 2, 3]\\n")
+except sift.Refusal as refusal:
+    print(refusal.why)
+"""
+
+
+def test_the_installed_package_explains_each_mistake(environment, program, tmp_path):
+    """It has the pages in it."""
+    for path in (TOP / "cases" / "mistakes").glob("*"):
+        (tmp_path / "cases" / "mistakes").mkdir(parents=True, exist_ok=True)
+        shutil.copy(path, tmp_path / "cases" / "mistakes")
+    mistakes = sorted(str(path.relative_to(tmp_path)) for path in tmp_path.rglob("*.toml"))
+    assert len(mistakes) >= 60
+    ended = subprocess.run([environment / "python", "-c", EXPLAINED, *mistakes], cwd=tmp_path, capture_output=True, text=True, check=True)
+    assert "units" in ended.stdout
+
+
 def test_an_installed_tool_explains(environment, program, tmp_path):
     mistake = TOP / "cases" / "mistakes" / "slot_unknown.toml"
     ended = subprocess.run([environment / "sift-explain", mistake], cwd=tmp_path, capture_output=True, text=True, check=False)

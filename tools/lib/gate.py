@@ -35,36 +35,40 @@ def kit():
     return made
 
 
-def taken(rt, top, program, file):
-    """Copies the program that was kept, through a copy of the crates: what stands in their own folders stays."""
-    with tempfile.TemporaryDirectory(prefix="sift-gate-") as room:
-        repository = f"{room}/repository"
-        rt.copy_crates(top, repository)
-        os.mkdir(f"{repository}/.git")  # so that it is the top of a repository
-        rt.Crate.allowed = rt.handles_of(repository)
-        crates = rt.crates_of(repository)
-        wanted = next(crate for crate in crates if crate.name == program)
-        kept = rt.Kept(crates)
-        for crate in [*wanted.below(), wanted]:
-            key = kept.key(crate)
-            if not kept.give(crate, False, key):
-                raise NotKept(f"`rt ci` kept no proof of {crate.name} as it stands here")
-            kept.is_built(crate)
-        shutil.copyfile(f"{wanted.folder}/out/{program}", file)
-        os.chmod(file, 0o755)
+def given(rt, top, name, repository):
+    """A crate, in a copy of the crates, with what was kept of it and of those below it: what stands in their own folders stays."""
+    rt.copy_crates(top, repository)
+    os.mkdir(f"{repository}/.git")  # so that it is the top of a repository
+    rt.Crate.allowed = rt.handles_of(repository)
+    crates = rt.crates_of(repository)
+    wanted = next(crate for crate in crates if crate.name == name)
+    kept = rt.Kept(crates)
+    for crate in [*wanted.below(), wanted]:
+        key = kept.key(crate)
+        if not kept.give(crate, False, key):
+            raise NotKept(f"`rt ci` kept no proof of {crate.name} as it stands here")
+        kept.is_built(crate)
+    return wanted
+
+
+def kept_in(repository, top, name):
+    """The folder of a crate in a copy of the crates, which it makes, with what was kept of it and of those below it."""
+    try:
+        with contextlib.redirect_stdout(io.StringIO()):
+            return given(kit(), os.path.abspath(top), name, repository).folder
+    except (AttributeError, TypeError, OSError, StopIteration, SystemExit) as fault:
+        raise NotKept(f"what `rt ci` keeps can't be taken by this kit: {fault}") from None
 
 
 def main(top, program, file):
-    said = io.StringIO()
-    try:
-        with contextlib.redirect_stdout(said):
-            taken(kit(), os.path.abspath(top), program, file)
-    except NotKept as fault:
-        print(f"build: {fault}", file=sys.stderr)
-        return 1
-    except (AttributeError, TypeError, OSError, StopIteration, SystemExit) as fault:
-        print(f"build: what `rt ci` keeps can't be taken by this kit: {fault}", file=sys.stderr)
-        return 1
+    with tempfile.TemporaryDirectory(prefix="sift-gate-") as room:
+        try:
+            folder = kept_in(f"{room}/repository", top, program)
+            shutil.copyfile(f"{folder}/out/{program}", file)
+            os.chmod(file, 0o755)
+        except (NotKept, OSError) as fault:
+            print(f"build: {fault}", file=sys.stderr)
+            return 1
     return 0
 
 

@@ -1,24 +1,19 @@
 -- What follows of an answer that was written to an empty room.
-use Rattle.std.proofs.Common.{◌≡◌, ◌≢◌, ℕ, ◌⊎◌, inl, inr, List, [], ◌++◌, get_or, drop, Some, refl, ap, ◌∙◌, subst, arith}
+use Rattle.std.proofs.Common.{◌≡◌, ◌≢◌, ℕ, ◌⊎◌, inl, inr, List, [], ◌++◌, drop, Some, refl, ap, ◌∙◌, subst, arith}
 use Rattle.std.specs.Io.KnownBytes.{Appends}
 use Rattle.sift_io.specs.Flow.{Inflow, Rose}
 use Rattle.sift_rogue.specs.Rogues.{AllowsDrawn}
 use Rattle.sift_rogue.specs.declared.storm.Storm.{Storm}
 use Rattle.sift_alone.specs.Given.{AreGiven, resting_storms}
 use Rattle.sift_commands.specs.Command.{commands}
-use Rattle.sift_commands.specs.declared.command.Command.{Command}
 use Rattle.sift_reply.specs.Duty.{IsOwedTo}
-use Rattle.sift_reply.specs.Promise.{Commands, IsAnswered, IsCertain, IsOwed}
+use Rattle.sift_reply.specs.Promise.{IsCertain, IsOwed}
 use Rattle.sift_reply.specs.Reply.{Input, IsGiven, Output, Reply, no_memory_status, read_fault, sink_fault_status}
 use Rattle.sift_call.specs.Room.{bytes_of, outflow_of}
 use Rattle.sift_call.specs.Told.{IsTold, program_commands}
 use Rattle.sift_call.specs.declared.room.RoomOut.{RoomOut}
 
--- where some bytes were added to what a room's sink tells, it has its room still
-same_room : (old new : RoomOut) (text : List ℕ) → Appends (outflow_of old).written (outflow_of new).written text → new.room.ghost_name ≡ old.room.ghost_name
-same_room old new text added = ap (λ (xs : List ℕ). get_or xs 0 0) added
-
--- and the bytes in an empty room are those that were added
+-- the bytes in a room that was empty are those that were added
 all_there : (old new : RoomOut) (text : List ℕ) → bytes_of old ≡ [] → Appends (outflow_of old).written (outflow_of new).written text → bytes_of new ≡ text
 all_there old new text empty added = ap (drop 1) added ∙ ap (λ (xs : List ℕ). xs ++ text) empty
 
@@ -33,21 +28,10 @@ module _ (words : List (List ℕ)) (before after : Inflow) (old new : RoomOut) (
   abbrev went : Output
   went = record { before = outflow_of old; after = outflow_of new }
 
-  -- whatever was answered, some bytes were added
-  pub stays : (promised : Commands Command) → IsAnswered promised words came went status → new.room.ghost_name ≡ old.room.ghost_name
-  stays promised (inl (reply, owed, inl given)) = same_room old new reply.text given.1
-  stays promised (inl (reply, owed, inr broken)) = same_room old new _ broken.2.2
-  stays promised (inr wanting) = same_room old new [] wanting.1
-
-  -- storms that haven't begun are the program's
-  pub of_program : (storms : List Storm) → storms ≡ resting_storms → IsCertain (commands (AreGiven AllowsDrawn storms)) words came went status
-      → IsCertain program_commands words came went status
-  of_program storms rest certain = subst (λ (them : List Storm). IsCertain (commands (AreGiven AllowsDrawn them)) words came went status) rest certain
-
   -- neither side failed, and memory was there: what was given is told
   pub told : (input : List ℕ) → before.left ≡ Some input → before.faults ≡ 0 → after.faults ≡ 0 → bytes_of old ≡ [] → status ≢ sink_fault_status → status ≢ no_memory_status
-      → IsCertain program_commands words came went status → IsTold words input status (bytes_of new)
-  told input tells calm sure empty nine ten certain = by (certain input tells)
+      → (storms : List Storm) → storms ≡ resting_storms → IsCertain (commands (AreGiven AllowsDrawn storms)) words came went status → IsTold words input status (bytes_of new)
+  told input tells calm sure empty nine ten storms rest certain = by (subst (λ (them : List Storm). IsCertain (commands (AreGiven AllowsDrawn them)) words came went status) rest certain input tells)
     where
       by : ((reply : Reply) × IsOwed program_commands words (λ duty. IsOwedTo duty input) reply × IsGiven went reply status)
           ⊎ (IsGiven went read_fault status × Rose before.faults after.faults)

@@ -1,6 +1,6 @@
 -- The words of a text: its lines.
-use Rattle.std.specs.Prelude.{◌≡◌, ◌⊎◌, ℕ, List, [], ◌∷◌, if◌then◌else◌, ◌==◌}
-use Rattle.std.specs.Str.{IsUtf8}
+use Rattle.std.specs.Prelude.{ℕ, List, [], ◌∷◌, if◌then◌else◌, ◌==◌}
+use Rattle.std.specs.Str.{is_utf8}
 
 -- a line feed
 abbrev pub line_end : ℕ
@@ -16,6 +16,6 @@ abbrev pub lines : List ℕ → List (List ℕ)
 lines [] = []
 lines (byte ∷ bytes) = if byte == line_end then [] ∷ lines bytes else begun_with byte (lines bytes)
 
--- the words of a text are its lines; bytes that are no text have none
-abbrev pub AreWords : (text : List ℕ) → List (List ℕ) → Type 0
-AreWords text words = (IsUtf8 text × (words ≡ lines text)) ⊎ (¬ IsUtf8 text × (words ≡ []))
+-- the words of a text: its lines; bytes that are no text have none
+abbrev pub words_in : (text : List ℕ) → List (List ℕ)
+words_in text = if is_utf8 text then lines text else []

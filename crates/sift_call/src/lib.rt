@@ -3,8 +3,6 @@
 #![tactic(auto)]
 
 mod calling;
-#[cfg(test)]
-mod calls;
 mod law;
 mod room;
 mod words;

@@ -1,14 +1,14 @@
 //! The words of a text.
 
 ghost use Rattle.std.specs.Prelude.{◌≡◌, ◌<◌, ◌∷◌, IfOk, length, map, string_bytes};
-ghost use Rattle.sift_call.specs.Words.{AreWords, lines};
+ghost use Rattle.sift_call.specs.Words.{lines, words_in};
 
 use sift_base::NoMemory;
 use std::alloc::Global;
 
 /// The words of a text, one a line. Bytes that aren't UTF-8 have none, as words of a command line that aren't.
 pub fn words_of(alloc: Global, text: &[u8]) -> Result<Vec<String>, NoMemory>
-    ensures { IfOk result (λ words. AreWords text.now (map string_bytes words.items)) }
+    ensures { IfOk result (λ words. map string_bytes words.items ≡ words_in text.now) }
 {
     match std::str::from_utf8(text) {
         Ok(text) => lines_of(alloc, text),

@@ -1,13 +1,16 @@
 """The faults that a schedule is tried with: each unit, each slot that it says, each way of lying, each moment."""
 import re
+from bisect import bisect_right
 from collections import namedtuple
-from itertools import combinations, repeat
+from itertools import accumulate, combinations, repeat
 
-from sift.documents.slots import FEWEST, configurations_of, sayers
+from sift.campaigns.ways import MOST_ITEMS, Said, is_made, ways_of
+from sift.documents.slots import FEWEST, HAPPENING, configurations_of, sayers
 
-FAR = -32768  # a clock's offset that is too far from every other one
-FIRST_WORD = 999  # where the search for a word begins that is never the right one
-FAULT = re.compile(r"unit ([0-7]) (.+) (wrong|silence|two-faces) from (\d+)")
+FAULT = re.compile(
+    r"unit (?P<unit>[0-7]) (?P<slot>.+?) (?P<way>(?P<kind>wrong|silence|two-faces|flip|stuck|offset|drift|intermittent|storm)(?: (?P<value>-?\d+))?)"
+    r"(?: to (?P<to>[0-7]+))? from (?P<begin>\d+)(?: for (?P<frames>\d+))?"
+)
 
 
 class Slot(namedtuple("Slot", "slot index word name", defaults=(None, None, ""))):
@@ -22,16 +25,38 @@ class Slot(namedtuple("Slot", "slot index word name", defaults=(None, None, ""))
         return {key: value for key, value in keys.items() if value is not None}
 
 
-class Fault(namedtuple("Fault", "unit slot kind begin")):
-    """A unit that goes wrong in one slot, in one way, from a frame on."""
+CELLS = Slot("cells")  # where a stray unit stores: no slot of a document
+ALL = Slot("all")  # each slot that a unit says, as one that dies is silent in
+
+
+class Fault(namedtuple("Fault", "unit slot kind begin value to frames number", defaults=(None, None, None, None))):
+    """A unit that goes wrong in one slot, in one way, from a frame on.
+
+    A value says more of the way: the word, the bit, the number that is added, or the strays of a storm. `to` are the units that
+    hear it so, all of them where it is None; `frames` is how long it lasts, to the end where it is None; and `number` is that
+    of a storm.
+    """
 
     def __str__(self):
-        return f"unit {self.unit} {self.slot} {self.kind} from {self.begin}"
+        value = "" if self.value is None else f" {self.value}"
+        to = "" if self.to is None else f" to {digits_of(self.to)}"
+        lasting = "" if self.frames is None else f" for {self.frames}"
+        return f"unit {self.unit} {self.slot} {self.kind}{value}{to} from {self.begin}{lasting}"
 
 
-def mask_of(units):
-    """The word by which a report names units."""
-    return sum(1 << unit for unit in units)
+class Told(namedtuple("Told", "unit slot way begin drawn")):
+    """What a row tells of a fault: the unit, the slot's name, the way, the frame from which on it goes wrong, and whether it was
+    drawn, and so names its hearers. A value that was asked for belongs to the way, and one that was drawn doesn't.
+    """
+
+
+def told_of(text):
+    """A fault that a row tells, or None."""
+    found = FAULT.fullmatch(text)
+    if not found:
+        return None
+    drawn = found["to"] is not None or found["kind"] == "storm"
+    return Told(found["unit"], found["slot"], found["kind"] if drawn else found["way"], int(found["begin"]), drawn)
 
 
 def digits_of(units):
@@ -73,7 +98,8 @@ class Schedule:
         # Of each size the tasks whose words, where its table sheds some, may differ from the ideal machine's from then on.
         self.held_tasks = {int(size): set(tasks) for size, tasks in outline.get("held", {}).items()}
         self.ideal = ideal
-        self.memory = {}  # who says a slot under a configuration
+        self.due = [frozenset((words,)) for words in ideal]  # what is voted in each frame where all is right
+        self.memory = {}  # who says a slot under a configuration, and the right words of a slot
 
     def executors(self, size):
         """Of each task the positions that run it where a configuration has this size."""
@@ -99,7 +125,9 @@ class Schedule:
         yield from (Slot("relay-report", unit, None, str(unit)) for unit in self.units)
 
     def says(self, unit, slot, configuration):
-        """Whether a unit says a slot under a configuration."""
+        """Whether a unit says a slot under a configuration. In its cells, and in all slots, it does so wherever it is in."""
+        if slot in (ALL, CELLS):
+            return unit in configuration
         key = slot.slot, slot.index, configuration
         if key not in self.memory:
             self.memory[key] = sayers(self, slot.slot, slot.index, configuration)[0]
@@ -110,64 +138,95 @@ class Schedule:
         configurations = [units for units in configurations_of(self.units) if unit in units]
         return [slot for slot in self.slots() if any(self.says(unit, slot, units) for units in configurations)]
 
+    def hearers(self, unit, slot):
+        """The units to which a unit says a slot."""
+        whose = slot.index if slot.slot == "relay-report" else None
+        return [other for other in self.units if other not in (unit, whose)]
+
+    def right_word(self, slot, frame):
+        """The word that a unit that works says in a slot of sensors or outputs in a frame."""
+        if slot.slot == "out":
+            return self.ideal[frame][self.outputs.index((slot.index, slot.word))]
+        words = self.sensors[slot.index][1]
+        return words[frame % len(words)]
+
     def right_words(self, slot):
         """The words that a unit that works may say in a slot of sensors or outputs."""
-        if slot.slot == "out":
-            place = self.outputs.index((slot.index, slot.word))
-            return {words[place] for words in self.ideal}
-        return set(self.sensors[slot.index][1])
+        if slot not in self.memory:
+            place = self.outputs.index((slot.index, slot.word)) if slot.slot == "out" else None
+            self.memory[slot] = set(self.sensors[slot.index][1]) if place is None else {words[place] for words in self.ideal}
+        return self.memory[slot]
 
-    def wrong_words(self, slot, low, high):
-        """Of a slot the wrong word, and those that the two halves of the receivers hear from a unit with two faces."""
-        if slot.slot == "clock":
-            pull = max(1, self.skew)
-            return FAR, pull, -pull
-        if slot.slot in ("report", "relay-report"):
-            return mask_of(low + high), mask_of(high), mask_of(low)
-        right = self.right_words(slot)
-        first, second = [word for word in range(FIRST_WORD, FIRST_WORD + len(right) + 2) if word not in right][:2]
-        return first, first, second
-
-    def items(self, fault):
-        """What a fault says to whom, as the items of a document."""
-        whose = fault.slot.index if fault.slot.slot == "relay-report" else None
-        hearers = [unit for unit in self.units if unit not in (fault.unit, whose)]
-        low, high = hearers[: len(hearers) // 2], hearers[len(hearers) // 2 :]
-        wrong, to_low, to_high = self.wrong_words(fault.slot, low, high)
-        said = {"wrong": [(hearers, wrong)], "silence": [(hearers, None)], "two-faces": [(low, to_low), (high, to_high)]}
-        for units, value in said[fault.kind]:
-            item = {**fault.slot.keys(), "to": digits_of(units)}
-            yield item if value is None else {**item, "value": value}
+    def lasting(self, fault):
+        """A fault as long as its items last."""
+        if fault.slot == ALL and fault.frames is not None:
+            return fault._replace(frames=min(fault.frames, MOST_ITEMS // len(self.slots_of(fault.unit))))
+        return Said(self, fault).fault if fault.kind in HAPPENING or fault.frames is not None else fault
 
     def table(self, fault):
         """A fault as a document states it."""
-        return {"unit": fault.unit, "from": fault.begin, "say": list(self.items(fault))}
+        return self.tables_of([fault])[0]
+
+    def tables_of(self, faults):
+        """Faults as a document states them: those of one unit, which begin in the same frame, in one table."""
+        units = {}
+        for fault in faults:
+            units.setdefault(fault.unit, []).append(fault)
+        return [self.table_of_unit(unit, own) for unit, own in units.items()]
+
+    def table_of_unit(self, unit, faults):
+        """The faults of a unit in one table."""
+        table = {"unit": unit, "from": faults[0].begin}
+        if faults[0].kind == "storm":
+            return {**table, "storm": {"number": faults[0].number, "strays": faults[0].value}}
+        return {**table, "say": [item for fault in faults for one in self.in_slots(fault) for item in Said(self, one).items()]}
+
+    def in_slots(self, fault):
+        """A fault in all slots as one in each of them."""
+        if fault.slot != ALL:
+            return [fault]
+        return [fault._replace(slot=slot, to=tuple(self.hearers(fault.unit, slot))) for slot in self.slots_of(fault.unit)]
 
 
 class Faults:
-    """What a campaign flies, by number: single faults, and then pairs of faults of two units."""
+    """What a campaign flies, by number: single faults, and then pairs of faults of two units.
 
-    def __init__(self, schedule, kinds, moments, single, pairs):
-        self.of_units = [
-            [Fault(unit, slot, kind, begin) for slot in schedule.slots_of(unit) for kind in kinds for begin in moments]
-            for unit in schedule.units
-        ]
-        self.parts = [(faults,) for faults in self.of_units] if single else []
-        self.parts += list(combinations(self.of_units, 2)) if pairs else []
+    It keeps what a unit can say wrong, and not each fault: there may be a million of them.
+    """
+
+    def __init__(self, schedule, kinds, moments, single, pairs, values=None, left_out=()):
+        self.schedule = schedule
+        self.moments = moments
+        units = [unit for unit in schedule.units if unit not in left_out]
+        ways = [way for kind in kinds for way in ways_of(kind, values)]
+        self.wrongs = {unit: [(slot, way) for slot in schedule.slots_of(unit) for way in ways if is_made(slot, way.kind)] for unit in units}
+        self.parts = [(unit,) for unit in units] if single else []
+        self.parts += list(combinations(units, 2)) if pairs else []
+        self.ends = list(accumulate(map(self.count, self.parts)))
 
     def __len__(self):
-        return sum(self.count(part) for part in self.parts)
+        return self.ends[-1] if self.ends else 0
 
-    @staticmethod
-    def count(part):
+    def of_unit(self, unit):
+        """How many faults a unit has."""
+        return len(self.wrongs[unit]) * len(self.moments)
+
+    def count(self, part):
         """How many runs a part has: one for each choice of a fault of each of its units."""
-        return len(part[0]) * (len(part[1]) if part[1:] else 1)
+        return self.of_unit(part[0]) * (self.of_unit(part[1]) if part[1:] else 1)
+
+    def fault(self, unit, number):
+        """The fault of a unit with a number, from 0."""
+        place, moment = divmod(number, len(self.moments))
+        slot, way = self.wrongs[unit][place]
+        return self.schedule.lasting(Fault(unit, slot, way.kind, self.moments[moment], way.value))
 
     def __getitem__(self, number):
         """The faults of a run, which is numbered from 0."""
-        for part in self.parts:
-            if number < self.count(part):
-                first, second = divmod(number, len(part[1])) if part[1:] else (number, None)
-                return (part[0][first],) if second is None else (part[0][first], part[1][second])
-            number -= self.count(part)
-        raise IndexError(number)
+        place = bisect_right(self.ends, number)
+        if number < 0 or place == len(self.ends):
+            raise IndexError(number)
+        part = self.parts[place]
+        number -= self.ends[place] - self.count(part)
+        numbers = divmod(number, self.of_unit(part[1])) if part[1:] else (number,)
+        return tuple(self.fault(unit, own) for unit, own in zip(part, numbers))

@@ -2,12 +2,14 @@
 import gc
 import sys
 from collections import deque
-from itertools import islice
+from itertools import chain, islice
 
-from sift.campaigns.campaign import Campaign, checksum
+from sift.campaigns.campaign import Campaign
 from sift.campaigns.flyer import Flyer, NoFlight
+from sift.campaigns.journal import append, entry, places_in
 from sift.campaigns.outcomes import outcome_of
 from sift.campaigns.promised import promises_of
+from sift.campaigns.quick import read_quickly
 from sift.campaigns.rows import row_of
 from sift.reports.reading import NoReport, blanked_stretch_of, read_report
 
@@ -39,21 +41,25 @@ class Run:
     def end(self, flyer, judged):
         """Waits for the report, and has it judged where that is wanted."""
         try:
-            self.report = flyer.end_flight(self.flight)
+            report = flyer.end_flight(self.flight)
+            self.report = report.decode("ascii")
             if judged:
-                self.verdict = flyer.judge(self.document, self.report)
+                self.verdict = flyer.judge(self.document, report)
         except (NoFlight, UnicodeDecodeError, OSError) as fault:
             raise self.no_row(fault) from None
 
-    def row(self, schedule):
+    def row(self, campaign):
         """The row of the run, which has flown."""
+        schedule = campaign.schedule
         last = self.report.rstrip("\n").rsplit("\n", 1)[-1]
         try:
-            flight = read_report(self.report, blanked_stretch_of)
+            flight = read_quickly(self.report) if self.verdict == "yes" else read_report(self.report, blanked_stretch_of)
         except NoReport as fault:
             raise self.no_row(fault) from None
         outcome = outcome_of(self.faults, flight, last, schedule)
-        return row_of(self.number, self.faults, outcome, self.verdict, promises_of(schedule, self.faults))
+        findings = [requirement.find(flight, schedule) for requirement in campaign.required]
+        promises = promises_of(schedule, self.faults, campaign.own)
+        return row_of(self.number, self.faults, outcome, self.verdict, promises, findings)
 
     def no_row(self, fault):
         return NoRow(f"row {self.number}: {fault}")
@@ -80,19 +86,62 @@ def flown(runs, flyer, judged, more):
         yield run
 
 
+def flyer_of(campaign):
+    """What flies a campaign's runs in this process: the library where the kit has it, else the program."""
+    if not campaign.has_library():
+        return Flyer(campaign.program)
+    from sift.campaigns.library import LibraryFlyer  # ctypes, which jobs that start the program do without
+
+    return LibraryFlyer(campaign.library)
+
+
+def batches_text(campaign, flyer, batches, more=0):
+    """What a job writes of some batches: the rows of each between a line that begins it and one that ends it; or NoRow. The time of
+    all flights is told with the first of them."""
+    numbers = [campaign.batch(batch) for batch in batches]
+    runs = (run for some in in_rows(chain(*numbers)) for run in [Run(campaign, number) for number in some])
+    before, rows = flyer.seconds, []
+    for some in in_rows(flown(runs, flyer, campaign.options["judge"], more)):
+        rows += [run.row(campaign) for run in some]
+    texts, left = [], iter(rows)
+    for batch, own in zip(batches, numbers):
+        texts.append(entry(batch, list(islice(left, len(own))), 0 if texts else flyer.seconds - before))
+    return "".join(texts)
+
+
+def batch_text(campaign, flyer, batch, more=0):
+    """The same of one batch."""
+    return batches_text(campaign, flyer, [batch], more)
+
+
 def main(kit, batch, more=0):
     """The status of a job: a batch of the campaign of a kit, of which so many more runs fly while one is waited for."""
     gc.disable()  # nothing that is read of a report refers to itself, and what is kept of reports is bounded
     campaign = Campaign(kit)
-    flyer = Flyer(campaign.program)
-    runs = (run for numbers in in_rows(campaign.batch(batch)) for run in [Run(campaign, number) for number in numbers])
-    rows = []
     try:
-        for some in in_rows(flown(runs, flyer, campaign.options["judge"], more)):
-            rows += [run.row(campaign.schedule) for run in some]
+        sys.stdout.write(batch_text(campaign, flyer_of(campaign), batch, more))
+        sys.stdout.flush()
     except NoRow as fault:
         print(fault, file=sys.stderr)
         return 1
-    print(f"batch {batch}", *rows, f"done {batch} {flyer.seconds:.3f} {checksum(rows):08x}", sep="\n", flush=True)
     return 0
 
+
+def share(kit, batches, output, place, of):
+    """The status of a job that flies each so many-th of the batches that a file lists, from a place on, and appends them to its own
+    output. Those that it has there, as a job that is begun anew may, aren't flown again."""
+    gc.disable()
+    campaign = Campaign(kit)
+    flyer, status = flyer_of(campaign), 0
+    with open(batches, encoding="utf-8") as lines:
+        wanted = [int(line) for line in lines][place::of]
+    append(output, "\n")  # behind what may be cut off
+    flown = places_in(output)
+    for batch in wanted:
+        try:
+            if batch not in flown:
+                append(output, batch_text(campaign, flyer, batch))
+        except NoRow as fault:
+            print(fault, file=sys.stderr, flush=True)
+            status = 1
+    return status

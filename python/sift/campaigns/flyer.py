@@ -1,20 +1,48 @@
-"""Runs the program on documents."""
+"""Runs the program on documents, started for each of them; library.py has how its library is called."""
 import os
 
 DIVIDER = b"--- report ---\n"  # between a document and its report, where the program's judge reads both
+USAGE = 2  # the status of a command that the program doesn't have
+# One worker flies a document. Many flights at once keep all processors busy as it is.
+FLY = ("run", "--workers", "1")
 
 
 class NoFlight(Exception):
     """Why a document has no report."""
 
 
-class Flyer:
-    """Runs the program, and keeps count of the processor time that it takes."""
+def report_of(status, text):
+    """The bytes of the report, where the program ends well."""
+    if status:
+        line = text.decode(errors="replace").strip()
+        raise NoFlight(f"the program ends with status {status}" + (f": {line}" if line else ""))
+    return text
+
+
+class Caller:
+    """What flyers share. One has `run`, which gives the status of the program with words, and what it writes."""
+
+    seconds = 0.0  # of processor time that its runs took
+
+    def fly(self, document):
+        """The report of a document."""
+        return report_of(*self.run(FLY, document)).decode("ascii")
+
+    def judge(self, document, report):
+        """What the program's judge says of a report, both as bytes."""
+        return self.run(("judge",), document + DIVIDER + report)[1].decode().strip()
+
+    def has_judge(self):
+        """Whether the program has the command."""
+        return self.run(("judge",), b"")[0] != USAGE
+
+
+class Flyer(Caller):
+    """Starts the program for each run, and keeps count of the processor time that it takes."""
 
     def __init__(self, program):
         self.program = program
         self.environment = dict(os.environb)
-        self.seconds = 0.0
         self.files = []  # for programs to come: pairs of one that is read and one that is written
 
     def begin(self, words, text):
@@ -38,29 +66,12 @@ class Flyer:
         return os.waitstatus_to_exitcode(status), written
 
     def run(self, words, text):
-        """The status of the program with words, and what it writes."""
         return self.end(self.begin(words, text))
 
     def begin_flight(self, document):
-        """Lets a document begin to fly. One worker flies it: many flights at once keep all processors busy as it is."""
-        return self.begin(["run", "--workers", "1"], document)
+        """Lets a document begin to fly."""
+        return self.begin(FLY, document)
 
     def end_flight(self, begun):
-        """The report of a document that has begun to fly."""
-        status, report = self.end(begun)
-        if status:
-            line = report.decode(errors="replace").strip()
-            raise NoFlight(f"the program ends with status {status}" + (f": {line}" if line else ""))
-        return report.decode("ascii")
-
-    def fly(self, document):
-        """The report of a document."""
-        return self.end_flight(self.begin_flight(document))
-
-    def judge(self, document, report):
-        """What the program's judge says of a report."""
-        return self.run(["judge"], document + DIVIDER + report.encode())[1].decode().strip()
-
-    def has_judge(self):
-        """Whether the program has the command."""
-        return self.run(["judge"], b"")[0] != 2
+        """The bytes of the report of a document that has begun to fly."""
+        return report_of(*self.end(begun))

@@ -5,7 +5,7 @@ import os
 import shutil
 
 LOGS = ("jobs.log", "jobs.txt")  # the engine's log, and what the jobs wrote
-KEPT = (*LOGS, "runs.tsv")  # what a campaign keeps beside its kit
+KEPT = (*LOGS, "runs.tsv", "slurm", "smallest.toml")  # what a campaign keeps beside its kit
 KIT = "sift-campaign-"  # what the name of a kit's folder begins with; it lies under that name on other machines, too
 
 

@@ -1,6 +1,7 @@
 """What came of a run, counted in its report."""
 from collections import namedtuple
 from functools import lru_cache
+from itertools import islice
 
 
 # What a run shows of one of its faults: whether its unit was due to say the slot in some configuration that it was in; the
@@ -32,10 +33,12 @@ def wrong_in(votes, ideal, compared):
 
 def wrong_words(flight, schedule):
     """Of each frame in which output words are wrong their places."""
-    wrong = {}
-    for number, (frame, ideal, compared) in enumerate(zip(flight.frames, schedule.ideal, schedule.compared(flight))):
-        if not frame.votes <= {ideal}:
-            wrong[number] = wrong_in(frame.votes, ideal, compared)
+    votes = [frame.votes for frame in flight.frames]
+    differ = [number for number, (told, due) in enumerate(zip(votes, schedule.due)) if told != due and told]
+    if not differ:
+        return {}
+    compared = list(islice(schedule.compared(flight), differ[-1] + 1))
+    wrong = {number: wrong_in(votes[number], schedule.ideal[number], compared[number]) for number in differ}
     return {number: places for number, places in wrong.items() if places}
 
 

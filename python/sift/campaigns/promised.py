@@ -5,7 +5,9 @@ lies to two of them is out of the next configuration (`out`), and one whose item
 (`own_words`). Of all else it says nothing: what comes of that only runs show.
 """
 from collections import namedtuple
+from functools import lru_cache
 
+from sift.campaigns.faults import ALL, CELLS
 from sift.documents.slots import FEWEST
 
 REPORTS = ("report", "relay-report")
@@ -23,8 +25,12 @@ NOTHING = Promise(None, None, frozenset())
 NEVER = Promise("own_words", None, frozenset())
 
 
-def promises_of(schedule, faults):
-    """What is promised of each of a run's faults, which are of one unit or of two."""
+def promises_of(schedule, faults, own=()):
+    """What is promised of each of a run's faults. Of more than two units nothing is, nor of a unit with several, nor beside faults
+    of the mission's own; nor of one that is stray, or silent in all slots."""
+    units = {fault.unit for fault in faults}
+    if own or len(units) < len(faults) or len(units) > 2 or any(fault.slot in (ALL, CELLS) for fault in faults):
+        return (NOTHING,) * len(faults)
     return tuple(promise_of(schedule, fault, [other for other in faults if other is not fault]) for fault in faults)
 
 
@@ -48,6 +54,7 @@ def promise_of(schedule, fault, others=()):
     return Promise("out", fault.begin + 1, by) if len(by) > 1 else Promise("caught", fault.begin, by)
 
 
+@lru_cache(maxsize=4096)  # a fault comes in many pairs
 def catchers(schedule, fault, members):
     """The units of a configuration that catch the fault in its first frame for certain, where all of them work."""
     hearers = {unit: value for value, units in said(schedule, fault) for unit in units if unit in members}
@@ -55,9 +62,10 @@ def catchers(schedule, fault, members):
 
 
 def said(schedule, fault):
-    """What a fault says, or None for nothing, and to whom."""
-    for item in schedule.items(fault):
-        yield item.get("value"), map(int, item["to"])
+    """What a fault says in its first frame, or None for nothing, and to whom. Each unit hears one item."""
+    for item in schedule.table(fault)["say"]:
+        if item.get("frame", fault.begin) == fault.begin:
+            yield item.get("value"), map(int, item["to"])
 
 
 def is_lie(schedule, fault, members, hearer, value):

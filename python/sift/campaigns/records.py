@@ -1,18 +1,26 @@
-"""The folder of a campaign: its kit, the engine's log, the rows of its batches, and its table."""
+"""The folder of a campaign: its kit, the engine's log, the rows of its batches, and its table.
+
+There may be a million rows: they are read and written one by one, and of a batch only its place is kept.
+"""
+import contextlib
 import os
-import re
 
-from sift.campaigns.campaign import Campaign, checksum, read
+from sift.campaigns.campaign import Campaign
+from sift.campaigns.journal import places_in
 from sift.campaigns.kits import kit_of
-from sift.campaigns.rows import COLUMNS
+from sift.campaigns.rows import COLUMNS, Row
 
-DONE = re.compile(r"done ([0-9]+) ([0-9]+\.[0-9]{3}) ([0-9a-f]{8})")
-
+HEAD = "Seq\tHost\tStarttime\tJobRuntime\tSend\tReceive\tExitval\tSignal\tCommand"  # of GNU parallel's log
 
 def written(path, text):
     """Writes a file whole: until all of it is on the disk, an older one stays."""
+    written_by(path, [text])
+
+
+def written_by(path, parts):
+    """The same of a text that comes in parts."""
     with open(path + ".new", "w", encoding="utf-8") as file:
-        file.write(text)
+        file.writelines(parts)
         file.flush()
         os.fsync(file.fileno())
     os.replace(path + ".new", path)
@@ -28,38 +36,54 @@ class Records:
     def path(self, name):
         return os.path.join(self.folder, name)
 
-    def lines(self, name):
-        """The lines of a file of the folder, none where it isn't there."""
-        return read(self.path(name)).splitlines() if os.path.exists(self.path(name)) else []
+    def files(self):
+        """What jobs wrote: those of this machine and of GNU parallel to one file, each job of Slurm to its own."""
+        tasks = self.path("slurm")
+        own = sorted(name for name in os.listdir(tasks) if name.endswith(".txt")) if os.path.isdir(tasks) else []
+        return [self.path("jobs.txt"), *(os.path.join(tasks, name) for name in own)]
 
     def flown(self):
-        """Of each batch that was flown to its end its rows, and the processor time of its flights.
+        """Of each batch that was flown to its end the place of its rows."""
+        known = self.campaign.batches()
+        return {number: place for path in self.files() for number, place in places_in(path).items() if number in known}
 
-        What jobs wrote may be cut off anywhere, and stand twice.
-        """
-        batches, rows = {}, []
-        for line in self.lines("jobs.txt"):
-            done = DONE.fullmatch(line)
-            if done and int(done[3], 16) == checksum(rows):
-                batches[int(done[1])] = rows, float(done[2])
-            if done or line.startswith("batch "):
-                rows = []
-            else:
-                rows.append(line)
-        return batches
+    def left(self):
+        """The batches that weren't flown to their end."""
+        flown = self.flown()
+        return [number for number in self.campaign.batches() if number not in flown]
 
     def mend_log(self):
-        """Takes out of the engine's log the batches whose rows aren't all there, so that it flies them anew."""
-        head, *lines = self.lines("jobs.log") or [""]
-        flown = {str(number) for number in self.flown()}
-        kept = [line for line in lines if line.count("\t") == 8 and line.split("\t", 1)[0] in flown]
-        written(self.path("jobs.log"), "".join(line + "\n" for line in [head, *kept] if line))
+        """Makes GNU parallel's log one of just the batches whose rows are all there, so that it flies the others."""
+        with contextlib.ExitStack() as files:
+            lines = files.enter_context(open(self.path("jobs.log"), encoding="utf-8", errors="replace")) if os.path.exists(self.path("jobs.log")) else []
+            logged = {line.split("\t", 1)[0]: line.rstrip("\n") for line in lines if line.count("\t") == 8}
+        flown = [str(number) for number in self.flown()]
+        kept = [logged.get(number, f"{number}\t:\t0.000\t0.000\t0\t0\t0\t0\t-") for number in flown]
+        if logged or kept:
+            written(self.path("jobs.log"), "".join(line + "\n" for line in [HEAD, *kept]))
 
-    def table(self):
-        """The rows, the processor time of the flights, and whether all were flown: then runs.tsv is written."""
-        flown = self.flown()
-        rows = [row for number in sorted(flown) for row in flown[number][0]]
-        whole = len(flown) == len(self.campaign.batches())
-        if whole:
-            written(self.path("runs.tsv"), "".join(line + "\n" for line in ["\t".join(COLUMNS), *rows]))
-        return rows, sum(seconds for _, seconds in flown.values()), whole
+    def columns(self):
+        """The names of the columns of its table."""
+        return [*COLUMNS, *map(str, self.campaign.required)]
+
+    def rows(self, flown):
+        """The rows of batches, in their order."""
+        for number in sorted(flown):
+            place = flown[number]
+            with open(place.path, encoding="utf-8") as file:
+                file.seek(place.begin)
+                for _ in range(place.rows):
+                    yield file.readline()
+
+    def table(self, flown, *readers):
+        """Writes runs.tsv, and lets readers have each row."""
+
+        def lines():
+            yield "\t".join(self.columns()) + "\n"
+            for line in self.rows(flown):
+                row = Row(line.rstrip("\n"))
+                for read in readers:
+                    read(row)
+                yield line
+
+        written_by(self.path("runs.tsv"), lines())

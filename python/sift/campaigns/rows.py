@@ -1,12 +1,16 @@
 """The rows of runs.tsv: what came of each run, as it is written, and as it is read back."""
 import math
+from collections import Counter
 
-from sift.campaigns.faults import FAULT
+from sift.campaigns.faults import told_of
 from sift.campaigns.outcomes import Trace
+from sift.campaigns.promised import contradictions
 from sift.reports.reading import set_of
 
 COLUMNS = ("row", "fault", "said", "caught", "by", "out", "margin", "wrong", "first", "words", "judge", "last", "promised")
 BEFORE = COLUMNS[:-1]  # those of a campaign that an earlier tool began
+CONTRADICTED = "!"  # behind what is promised, where the run shows something else
+NO_FAULT = "none"  # what a row tells of a run without a fault, as some of those that are drawn by a rate are
 # What can become of a unit that goes wrong, and of a run, from the mildest to the worst.
 FATES = ("inert", "out", "caught by one", "never caught", "margin lost")
 
@@ -16,23 +20,24 @@ def cell(value):
     return "-" if value is None else str(value)
 
 
-def row_of(number, faults, outcome, verdict, promises):
-    """The row of a run. What is told of two faults stands side by side, with a + between."""
+def row_of(number, faults, outcome, verdict, promises, findings=()):
+    """The row of a run. What is told of several faults stands side by side, with a + between."""
     traces = outcome.traces
     cells = (
         str(number),
-        " + ".join(map(str, faults)),
-        "+".join("said" if trace.said else "inert" for trace in traces),
-        "+".join(cell(trace.caught) for trace in traces),
-        "+".join(set_of(trace.by) for trace in traces),
-        "+".join(cell(trace.out) for trace in traces),
+        " + ".join(map(str, faults)) or NO_FAULT,
+        "+".join("said" if trace.said else "inert" for trace in traces) or "-",
+        "+".join(cell(trace.caught) for trace in traces) or "-",
+        "+".join(set_of(trace.by) for trace in traces) or "-",
+        "+".join(cell(trace.out) for trace in traces) or "-",
         "ok" if outcome.margin else "lost",
         str(outcome.wrong),
         cell(outcome.first),
         ",".join(outcome.words) or "-",
         verdict,
         outcome.last,
-        "+".join(map(str, promises)),
+        ("+".join(map(str, promises)) or "-") + (CONTRADICTED if any(contradictions(promises, traces)) else ""),
+        *map(str, findings),
     )
     return "\t".join(cells)
 
@@ -42,29 +47,32 @@ class NoRows(Exception):
 
 
 class Row:
-    """A row that was read back."""
+    """A row that was read back. Behind the columns of all tables stand those of what is required."""
 
     def __init__(self, line):
-        cells = dict(zip(COLUMNS, line.split("\t")))
+        self.cells = line.split("\t")
+        cells = dict(zip(COLUMNS, self.cells))
         self.number = int(cells["row"])
-        self.line_of_faults = cells["fault"]
-        self.faults = [FAULT.fullmatch(fault) for fault in cells["fault"].split(" + ")]  # unit, slot, kind, begin
+        faults = [] if cells["fault"] == NO_FAULT else cells["fault"].split(" + ")
+        self.faults = [told_of(fault) for fault in faults]
         if None in self.faults:
             raise ValueError(cells["fault"])
+        self.drawn = all(fault.drawn for fault in self.faults)  # so that each run is one of many like it
         self.lost = {"ok": False, "lost": True}[cells["margin"]]
         self.wrong = int(cells["wrong"])
         self.first = None if cells["first"] == "-" else int(cells["first"])
         self.judge = cells["judge"]
+        self.findings = self.cells[len(COLUMNS) :]
         parts = [cells[name].split("+") for name in ("said", "caught", "by", "out")]
-        self.traces = [self.trace_of(*part) for part in zip(*parts)]
-        # Of each fault what is promised of it, or None.
-        told = cells["promised"].split("+") if "promised" in cells else ["-"] * len(self.faults)
-        self.promised = [None if promise == "-" else promise for promise in told]
+        self.traces = [self.trace_of(*part) for part in zip(*parts)] if faults else []
+        # Of each fault what is promised of it, or None; and whether the run contradicts it.
+        told = cells.get("promised", "-")
+        self.contradicted = told.endswith(CONTRADICTED)
+        self.promised = [None if promise == "-" else promise for promise in told.rstrip(CONTRADICTED).split("+")] if faults else []
+        self.promised += [None] * (len(faults) - len(self.promised))
         self.fates = [self.fate_of(trace) for trace in self.traces]
         # Of each fault how many frames it took until its unit was out, or None.
-        self.removals = [
-            None if trace.out is None else max(0, trace.out - int(fault[4])) for trace, fault in zip(self.traces, self.faults)
-        ]
+        self.removals = [None if trace.out is None else max(0, trace.out - fault.begin) for trace, fault in zip(self.traces, self.faults)]
 
     @staticmethod
     def trace_of(said, caught, by, out):
@@ -82,14 +90,34 @@ class Row:
         return "never caught" if trace.caught is None else "caught by one"
 
     @property
+    def name(self):
+        """The run's fault, by which two campaigns know it."""
+        return self.cells[1]
+
+    @property
+    def units(self):
+        """The units that go wrong."""
+        return {fault.unit for fault in self.faults}
+
+    @property
+    def broken(self):
+        """Of each requirement whether it is broken."""
+        return [finding.startswith("broken ") for finding in self.findings]
+
+    @property
+    def harmed(self):
+        """Whether an output was lost: where something is required of outputs, that is broken; else a word is another one."""
+        return any(self.broken) if self.findings else self.wrong > 0
+
+    @property
     def fate(self):
         """What became of the run: of its faults the worst, and where the margin is lost, that."""
-        return "margin lost" if self.lost else max(self.fates, key=FATES.index)
+        return "margin lost" if self.lost else max(self.fates, key=FATES.index, default=FATES[0])
 
     @property
     def lasting(self):
         """The most frames that a fault that was said took until its unit was out: without an end where it stays."""
-        return max(self.lasting_at(place) for place in range(len(self.faults)))
+        return max(map(self.lasting_at, range(len(self.faults))), default=0)
 
     def lasting_at(self, place):
         """The same of one of its faults: 0 where it is inert."""
@@ -99,43 +127,58 @@ class Row:
 
     def badness(self):
         """What the worst rows have the greatest of: a lost output, what became of it, how long it lasts, and wrong words."""
-        return self.wrong > 0, FATES.index(self.fate), self.lasting, self.wrong
+        return self.harmed, FATES.index(self.fate), self.lasting, self.wrong
+
+    def is_failure(self):
+        """Whether one unit alone lost the margin or an output, the judge didn't take the report, or the run isn't as promised."""
+        return self.is_misjudged() or self.contradicted or len(self.units) == 1 and (self.lost or self.harmed)
+
+    def is_misjudged(self):
+        return self.judge not in ("yes", "-")
+
+
+def read_rows(lines):
+    """The names of what is required, and then the rows of a table, one by one."""
+    lines = iter(lines)
+    names = next(lines, "").rstrip("\n").split("\t")
+    if tuple(names) != BEFORE and tuple(names[: len(COLUMNS)]) != COLUMNS:
+        raise NoRows("line 1: the names of the columns are due")
+    yield names[len(COLUMNS) :]
+    for number, line in enumerate(lines, 2):
+        try:
+            row = Row(line.rstrip("\n"))
+        except (KeyError, TypeError, ValueError):
+            raise NoRows(f"line {number}: it isn't a run's") from None
+        if len(row.cells) != len(names):
+            raise NoRows(f"line {number}: it has {len(row.cells)} columns, and {len(names)} are named")
+        yield row
 
 
 def rows_of(text):
     """The rows of a table of runs."""
-    lines = text.splitlines()
-    if not lines or lines[0] not in ("\t".join(COLUMNS), "\t".join(BEFORE)):
-        raise NoRows("line 1: the names of the columns are due")
-    rows = []
-    for number, line in enumerate(lines[1:], 2):
-        try:
-            rows.append(Row(line))
-        except (KeyError, TypeError, ValueError):
-            raise NoRows(f"line {number}: it isn't a run's") from None
-    return rows
+    return list(read_rows(text.splitlines()))[1:]
+
+
+PROMISED = {"out": "to be out in the next frame", "caught": "to be caught by one unit", "never": "to be caught by nobody"}
+
+
+def promised_line(rows):
+    """What is promised of the faults of rows, in words, or None where nothing is."""
+    return promised_of([promise for row in rows for promise in row.promised if promise])
+
+
+def promised_of(promises):
+    """The same of promises, or of how many of each sort there are."""
+    sorts = Counter(short(promise) for promise in promises) if isinstance(promises, list) else promises
+    parts = [f"{sorts[sort]:,} {what}" for sort, what in PROMISED.items() if sorts[sort]]
+    return f"promised: {', '.join(parts)}; all else was only seen" if parts else None
+
+
+def short(promise):
+    """A promise without its frame."""
+    return promise and promise.split(" ")[0]
 
 
 def counted(number, one, many):
     """A number of things."""
     return f"{number:,} {one if number == 1 else many}"
-
-
-def headlines(rows):
-    """What rows come to, in a line for single faults and one for pairs."""
-    for size, name in ((1, "a single fault"), (2, "a pair of faults")):
-        some = [row for row in rows if len(row.faults) == size]
-        if some:
-            outputs, margins = sum(row.wrong > 0 for row in some), sum(row.lost for row in some)
-            yield f"{counted(len(some), 'run', 'runs')} with {name}: an output was lost in {outputs:,}, the margin in {margins:,}"
-
-
-def promised_line(rows):
-    """What is promised of the faults of rows, in words, or None where nothing is."""
-    told = [promise for row in rows for promise in row.promised if promise]
-    parts = [
-        f"{sum(promise.startswith(begin) for promise in told):,} {what}"
-        for begin, what in (("out", "to be out in the next frame"), ("caught", "to be caught by one unit"), ("never", "to be caught by nobody"))
-        if any(promise.startswith(begin) for promise in told)
-    ]
-    return f"promised: {', '.join(parts)}; all else was only seen" if parts else None

@@ -36,4 +36,4 @@ def text_of(data):
 
 def faults_text(faults):
     """The text of faults, which stands behind the text of a mission that has none."""
-    return text_of({"fault": faults})
+    return text_of({"fault": faults}) if faults else ""

@@ -3,6 +3,10 @@ import itertools
 
 FEWEST = 4  # units of a configuration
 KINDS = ("wrong", "silence", "two-faces")  # the ways of saying a word that is not the right one
+# The ways that are made of the right words, as faults happen: a bit that is turned over, a word that stands still, a number that
+# is added, one that grows from frame to frame, and a wrong word in every second frame.
+HAPPENING = ("flip", "stuck", "offset", "drift", "intermittent")
+ALL_KINDS = (*KINDS, *HAPPENING)
 
 
 def configurations_of(units):

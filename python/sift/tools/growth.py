@@ -39,8 +39,11 @@ def main(words):
         print("\t".join(COLUMNS))
         for row in rows(options.program, options.runs):
             print(row, flush=True)
-    except (NotFlown, OSError) as fault:
+    except NotFlown as fault:
         print(f"growth: {fault}", file=sys.stderr)
+        return 1
+    except OSError as fault:
+        print(f"growth: {f'{fault.filename}: ' if fault.filename else ''}{fault.strerror}", file=sys.stderr)
         return 1
     return 0
 

@@ -4,6 +4,7 @@ of a flight grows: an SVG for a browser, or with --text lines for a terminal.
 usage: tools/picture [--text] [--frames A-B] REPORT [MISSION] > flight.svg
        tools/picture [--text] --schedule MISSION > schedule.svg
        tools/picture [--text] --sweep RUNS > sweep.svg        RUNS is the runs.tsv of tools/sweep
+       tools/picture [--text] --sweep RUNS --before RUNS > changes.svg
        tools/picture [--text] --growth TIMES > growth.svg     TIMES is what tools/growth tells
 
 With its mission the picture of a report tells what faulty units say, and which tasks are shed. --frames draws some frames alone,
@@ -14,6 +15,7 @@ in docs/pictures.md.
 Status 0 and the drawing; 1 and a line on standard error where the input is none of these, can't be read, or the drawing
 can't be written; 2 and its usage for other words.
 """
+import contextlib
 import os
 import re
 import shutil
@@ -110,24 +112,42 @@ def schedule_of(raw, name):
     return schedule_picture.Schedule(mission_of(raw, name), named(name)), schedule_picture
 
 
-def sweep_of(raw, name):
-    """The drawings of a campaign's runs. The mission's name and its order are known where the campaign's kit lies beside them."""
-    from sift.pictures import campaign as sweep_picture
+@contextlib.contextmanager
+def lines_of(name):
+    """The lines of a file, or of standard input where the name is -."""
+    if name == "-":
+        yield sys.stdin
+        return
+    with open(name, encoding="utf-8") as lines:
+        yield lines
+
+
+def campaigns_of(name, before=None):
+    """The drawings of a campaign's runs, or of two campaigns. The mission's name and its order are known where the campaign's kit
+    lies beside them. Rows are read one by one, however many there are."""
     from sift.campaigns.campaign import Campaign
     from sift.campaigns.kits import kit_of
-    from sift.campaigns.rows import NoRows, rows_of
+    from sift.campaigns.rows import NoRows, read_rows
+    from sift.pictures import campaign as sweep_picture
 
+    kit = kit_of(os.path.dirname(os.path.abspath(name))) if name != "-" else None
+    campaign = Campaign(kit) if kit else None
+    heads = (campaign.options["mission"], [str(slot) for slot in campaign.schedule.slots()]) if campaign else (named(name), None)
     try:
-        rows = rows_of(raw.decode())
+        with contextlib.ExitStack() as files:
+            rows = read_rows(files.enter_context(lines_of(name)))
+            required = next(rows)
+            if before:
+                older = read_rows(files.enter_context(lines_of(before)))
+                next(older)
+                drawn = sweep_picture.Changes(older, rows, *heads)
+            else:
+                drawn = sweep_picture.Table(rows, *heads, required)
     except (NoRows, UnicodeDecodeError) as fault:
         raise NotDrawn(f"no runs of a campaign: {fault}") from None
-    if not rows:
+    if not drawn.cells:
         raise NotDrawn("no runs of a campaign: there is no run")
-    kit = kit_of(os.path.dirname(os.path.abspath(name))) if name != "-" else None
-    if not kit:
-        return sweep_picture.Table(rows, named(name)), sweep_picture
-    campaign = Campaign(kit)
-    return sweep_picture.Table(rows, campaign.options["mission"], [str(slot) for slot in campaign.schedule.slots()]), sweep_picture
+    return drawn, sweep_picture
 
 
 def growth_of(raw, name):
@@ -140,16 +160,16 @@ def growth_of(raw, name):
         raise NotDrawn(f"no times: {fault}") from None
 
 
-USAGE = "\n".join(__doc__.split("\n\n")[1].splitlines()[:4])
+USAGE = "\n".join(__doc__.split("\n\n")[1].splitlines()[:5])
 FRAMES = re.compile("([0-9]{1,4})-([0-9]{1,4})")
-KINDS = {"--schedule": schedule_of, "--sweep": sweep_of, "--growth": growth_of}
+KINDS = ("--schedule", "--sweep", "--growth")
 
 
 class Options:
     """The words of the command line: whether lines are wanted, what is drawn, which frames, and the names of files."""
 
     def __init__(self, words):
-        self.text, self.kind, self.frames, self.names = False, None, None, []
+        self.text, self.kind, self.frames, self.before, self.names = False, None, None, None, []
         words = iter(words)
         for word in words:
             if word == "--text":
@@ -158,6 +178,8 @@ class Options:
                 self.kind = word
             elif word == "--frames" and not self.frames:
                 self.frames = next(words, "")
+            elif word == "--before" and not self.before:
+                self.before = next(words, "-")
             else:
                 self.names.append(word)
 
@@ -166,7 +188,18 @@ class Options:
         files = (1,) if self.kind else (1, 2)
         unknown = any(name.startswith("-") and name != "-" for name in self.names)
         frames = self.frames is None or not self.kind and FRAMES.fullmatch(self.frames)
-        return len(self.names) in files and not unknown and self.names.count("-") < 2 and bool(frames)
+        before = self.before is None or self.kind == "--sweep" and not self.before.startswith("-")
+        return len(self.names) in files and not unknown and self.names.count("-") < 2 and bool(frames) and before
+
+
+def drawing_of(options):
+    """What is drawn, and the module that draws it."""
+    name = options.names[0]
+    if options.kind == "--sweep":
+        return campaigns_of(name, options.before)
+    if options.kind:
+        return {"--schedule": schedule_of, "--growth": growth_of}[options.kind](read_source(name), name)
+    return flight_of(options)
 
 
 def main(words):
@@ -179,8 +212,7 @@ def main(words):
         print(as_called(USAGE), file=sys.stderr)
         return 2
     try:
-        name = options.names[0]
-        drawn, picture = KINDS[options.kind](read_source(name), name) if options.kind else flight_of(options)
+        drawn, picture = drawing_of(options)
     except NotDrawn as fault:
         print(f"picture: {fault}", file=sys.stderr)
         return 1

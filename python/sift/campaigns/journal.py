@@ -1,0 +1,46 @@
+"""What jobs write of their batches: a line that begins a batch, its rows, and a line that ends it, with a checksum."""
+import os
+import re
+import zlib
+from collections import namedtuple
+
+DONE = re.compile(rb"done ([0-9]+) ([0-9]+\.[0-9]{3}) ([0-9a-f]{8})\n")
+# Where the rows of a batch stand: in which file, from which byte on; how many they are, and the seconds of their flights.
+Place = namedtuple("Place", "path begin rows seconds")
+
+
+def entry(batch, rows, seconds):
+    """What a job writes of a batch."""
+    text = "\n".join(rows)
+    return "".join(line + "\n" for line in (f"batch {batch}", *rows, f"done {batch} {seconds:.3f} {zlib.crc32(text.encode()):08x}"))
+
+
+def places_in(path):
+    """The batches that a file has to their end, by number; none where it isn't there. It may be cut off anywhere, and have some twice."""
+    found = {}
+    if not os.path.exists(path):
+        return found
+    with open(path, "rb") as file:
+        begin, rows, check, here = 0, 0, 0, 0
+        for line in file:
+            here += len(line)
+            done = DONE.fullmatch(line)
+            if done and int(done[3], 16) == check:
+                found[int(done[1])] = Place(path, begin, rows, float(done[2]))
+            if done or line.startswith(b"batch "):
+                begin, rows, check = here, 0, 0
+            else:
+                check = zlib.crc32(line.rstrip(b"\n"), zlib.crc32(b"\n", check) if rows else 0)
+                rows += 1
+    return found
+
+
+def append(path, text):
+    """Appends an entry in one piece, so that what others append stands before or behind it."""
+    file = os.open(path, os.O_WRONLY | os.O_APPEND | os.O_CREAT, 0o666)
+    try:
+        raw = text.encode()
+        while raw:
+            raw = raw[os.write(file, raw) :]
+    finally:
+        os.close(file)
