@@ -58,10 +58,13 @@ _sift_tool() {
   local word=${COMP_WORDS[COMP_CWORD]} options=--help
   case ${COMP_WORDS[COMP_CWORD - 1]} in
     --kinds) mapfile -t COMPREPLY < <(compgen -W 'wrong silence two-faces flip stuck offset drift intermittent' -- "$word"); return ;;
+    --permanent | --transient | --lasts | --tick | --hours | --weight | --units | --vary | --causes) COMPREPLY=(); return ;;
+    --by) mapfile -t COMPREPLY < <(compgen -W 'slot unit way' -- "$word"); return ;;
     --plot) _sift_plotted "$word"; return ;;
     --from | --limit | --batch | --jobs | --sshlogin | --replay | --frames | --seconds | --size) COMPREPLY=(); return ;;
   esac
   case ${COMP_WORDS[0]##*/} in
+    sift-odds) options+=' --permanent --transient --lasts --frame --tick --hours --runs --weight --units --vary --by --causes --plot --json' ;;
     sift-picture) options+=' --text --frames --schedule --sweep --before' ;;
     sift-place) options+=' --write --seconds --picture --sweep --to-csv --from-csv --size --program' ;;
     sift-sweep) options+=' --single --pairs --kinds --from --limit --out --program --batch --jobs --sshlogin --resume --overwrite --replay --values --keep --random --number --require --reduce --compare --slurm --json --junit' ;;
@@ -74,4 +77,4 @@ _sift_tool() {
     mapfile -t COMPREPLY < <(compgen -f -- "$word")
   fi
 }
-complete -F _sift_tool sift-compare sift-explain sift-lint sift-picture sift-place sift-sweep sift-words
+complete -F _sift_tool sift-compare sift-explain sift-lint sift-odds sift-picture sift-place sift-sweep sift-words

@@ -8,7 +8,7 @@ from sift import where
 
 def as_called(words):
     """Words that name tools as they are called in a clone, with the names that they have here: tools/words is installed as sift-words."""
-    return re.sub(r"\btools/(?=(compare|explain|lint|picture|sweep|words)\b)", "sift-", words) if not where.IN_CLONE else words
+    return re.sub(r"\btools/(?=(compare|explain|lint|odds|picture|sweep|words)\b)", "sift-", words) if not where.IN_CLONE else words
 
 
 def read_source(name):
