@@ -60,7 +60,7 @@ _sift_tool() {
     --kinds) mapfile -t COMPREPLY < <(compgen -W 'wrong silence two-faces flip stuck offset drift intermittent' -- "$word"); return ;;
     --permanent | --transient | --lasts | --tick | --hours | --weight | --units | --vary | --causes) COMPREPLY=(); return ;;
     --by) mapfile -t COMPREPLY < <(compgen -W 'slot unit way' -- "$word"); return ;;
-    --plot) _sift_plotted "$word"; return ;;
+    --plot) [[ ${COMP_WORDS[0]##*/} == sift-odds ]] || { _sift_plotted "$word"; return; } ;;
     --from | --limit | --batch | --jobs | --sshlogin | --replay | --frames | --seconds | --size) COMPREPLY=(); return ;;
   esac
   case ${COMP_WORDS[0]##*/} in
