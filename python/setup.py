@@ -1,9 +1,15 @@
-"""Puts into the package what it stands on: pages of docs/, and the program and its library where they are built."""
+"""Puts into the package what it stands on: the version of all that is released, pages of docs/, and the program and its library
+where they are built."""
 import shutil
 from pathlib import Path
 
 from setuptools import Distribution, setup
 from setuptools.command.build_py import build_py
+
+try:
+    from setuptools.command.bdist_wheel import bdist_wheel
+except ImportError:  # an older setuptools has it in a package of its own
+    from wheel.bdist_wheel import bdist_wheel
 
 TOP = Path(__file__).resolve().parent.parent
 PAGES = ("byz.md", "faults.md", "judge.md", "mission.schema.json", "missions.md", "refusals.md", "tables.md", "tasks.md")
@@ -31,4 +37,11 @@ class OfThisMachine(Distribution):
         return bool(BUILT)
 
 
-setup(cmdclass={"build_py": Bundle}, distclass=OfThisMachine)
+class OfAnyPython(bdist_wheel):
+    """The program and its library are asked, and not imported: any Python 3 will do."""
+
+    def get_tag(self):
+        return ("py3", "none", super().get_tag()[2])
+
+
+setup(version=(TOP / "VERSION").read_text().strip(), cmdclass={"build_py": Bundle, "bdist_wheel": OfAnyPython}, distclass=OfThisMachine)
