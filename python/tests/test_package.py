@@ -40,7 +40,7 @@ def environment(tmp_path_factory):
     if made.returncode:
         pytest.skip(f"no environment is made: {made.stdout} {made.stderr}")
     shutil.copytree(TOP / "python", folder / "copy" / "python", ignore=shutil.ignore_patterns("build", "*.egg-info", "__pycache__"))
-    for name in ("docs", "out"):  # beside it, as in a clone
+    for name in ("VERSION", "docs", "out"):  # beside it, as in a clone
         if (TOP / name).exists():
             (folder / "copy" / name).symlink_to(TOP / name)
     subprocess.run([*offline(), folder / "bin" / "pip", "install", "--no-input", "--disable-pip-version-check", "-q", folder / "copy" / "python"], check=True)
