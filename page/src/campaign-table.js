@@ -89,6 +89,7 @@ export function keyOf(table, compares) {
     "ul",
     { class: "key campaign-key", "aria-label": "What the marks mean" },
     ...table.looks.map((look) => element("li", {}, element("span", { class: `swatch ${classOf(look)}` }, LOOKS[look][0] ?? "1"), LOOKS[look][1])),
+    [...table.cells.values()].some((cell) => cell.promised) && element("li", {}, element("span", { class: "swatch" }, "!"), "promised: out in the next frame, or never caught; all else was only seen"),
     wrong && element("li", {}, element("span", { class: "swatch wrong" }, "*"), "an output was lost: a unit voted another word than the ideal machine"),
     ...changes.map(([sign, words]) => element("li", {}, element("span", { class: "swatch" }, sign), words)),
   );
