@@ -8,8 +8,8 @@ import { element } from "./elements.js";
  */
 export function start(section, { show }) {
   section.append(
-    `sift ${valueOf("version")}. The simulator in this page is proved, but for the step that makes a module for browsers of it; `,
-    "the page around it isn't proved, but tested. Nothing is loaded, and nothing leaves this page. ",
+    `sift ${valueOf("version")}. The program in it is proved, but for the step to a module for browsers; the page around it is tested. `,
+    "Nothing is loaded, and nothing leaves this page. ",
     element("button", { type: "button", class: "link", onclick: () => show("help") }, "What there is in it"),
   );
 }

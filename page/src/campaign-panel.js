@@ -4,6 +4,7 @@ import { keyOf, tablesOf } from "./campaign-table.js";
 import { Table, changesOf } from "./cells.js";
 import { element } from "./elements.js";
 import { save } from "./files.js";
+import { button, label, note, option } from "./parts.js";
 import { linkOf } from "./links.js";
 import { Stopped } from "./program.js";
 import { promisedLine } from "./promised.js";
@@ -11,6 +12,10 @@ import { counted, headlinesOf, tableOf } from "./rows.js";
 import { KINDS } from "./slots.js";
 
 /** @typedef {import("./main.js").Page} Page */
+
+const ABOUT =
+  "The mission is flown with each fault that a unit can have, one a run: each word that it says, in each way. Its own faults are left out.";
+const SHEDS = "Words of a task that a table sheds, and of those that read it, aren't compared from the first such frame on.";
 
 /** The campaigns that were flown, the newest last. */
 export const campaigns = /** @type {Campaign[]} */ ([]);
@@ -30,13 +35,13 @@ class CampaignPanel {
     this.kinds = KINDS.map((kind) => ({ kind, box: element("input", { type: "checkbox", checked: true }) }));
     this.moments = element("input", { type: "text", value: "0", size: 8, inputmode: "numeric", "aria-describedby": "campaign-moments" });
     this.fly = element("button", { type: "submit", class: "main" }, "Fly all");
-    this.stop = element("button", { type: "button", hidden: true, onclick: () => this.page.fleet.stop() }, "Stop");
+    this.stop = button("Stop", () => this.page.fleet.stop(), { hidden: true });
     this.progress = element("progress", { "aria-label": "Runs that were flown", hidden: true });
     this.status = element("p", { role: "status" });
     this.result = element("div", { class: "result" });
     section.append(
       element("h2", {}, "All single faults"),
-      element("p", { class: "more" }, "The mission is flown with each fault that a unit can have, one a run: each word that it says, in each way. Its own faults are left out."),
+      note(ABOUT),
       this.form(),
       this.progress,
       this.status,
@@ -45,14 +50,8 @@ class CampaignPanel {
   }
 
   form() {
-    const ways = element("fieldset", { class: "ways" }, element("legend", {}, "Ways of lying"), ...this.kinds.map(({ kind, box }) => element("label", {}, box, ` ${kind}`)));
-    const from = element(
-      "label",
-      {},
-      "From frames ",
-      this.moments,
-      element("span", { id: "campaign-moments", class: "more" }, " as in 0,10 or 0-49"),
-    );
+    const ways = element("fieldset", {}, element("legend", {}, "Ways of lying"), ...this.kinds.map(({ kind, box }) => label(box, ` ${kind}`)));
+    const from = label("From frames ", this.moments, element("span", { id: "campaign-moments", class: "more" }, " as in 0,10 or 0-49"));
     const submit = (/** @type {Event} */ event) => {
       event.preventDefault();
       this.begin();
@@ -90,7 +89,8 @@ class CampaignPanel {
     let end = "";
     try {
       await campaign.fly(this.page.fleet, () => this.tell());
-      end = `${counted(campaign.rows.length, "run", "runs")} in ${((performance.now() - this.begun) / 1000).toFixed(1)} s, on ${counted(this.page.fleet.count, "processor", "processors")}`;
+      const seconds = ((performance.now() - this.begun) / 1000).toFixed(1);
+      end = `${counted(campaign.rows.length, "run", "runs")} in ${seconds} s, on ${counted(this.page.fleet.count, "processor", "processors")}`;
     } catch (why) {
       if (!(why instanceof Stopped || why instanceof Error)) throw why;
       const flown = `${campaign.rows.length.toLocaleString("en-US")} of ${counted(campaign.runs.length, "run", "runs")} were flown`;
@@ -149,7 +149,7 @@ class CampaignPanel {
       ...(before ? [element("p", {}, toldChanges(changesOf(before, table)))] : []),
       element("div", { class: "campaigns" }, ...tablesOf(table, before, (row, event) => this.open(campaign, row, event))),
       keyOf(table, before !== null),
-      element("p", { class: "more" }, "Each mark opens the flight of its worst run. With several moments a cell has the worst of them."),
+      note("Each mark opens the flight of its worst run. With several moments a cell has the worst of them."),
     );
     this.link(campaign);
   }
@@ -160,13 +160,13 @@ class CampaignPanel {
     const refused = campaign.rows.filter((row) => row.judge !== "yes");
     const notes = [
       ...(own ? [`The mission's own ${own === 1 ? "fault is" : `${own} faults are`} left out.`] : []),
-      ...(campaign.schedule.sheds() ? ["Words of a task that a table sheds, and of those that read it, aren't compared from the first such frame on."] : []),
+      ...(campaign.schedule.sheds() ? [SHEDS] : []),
       ...promisedLine(campaign.rows.flatMap((row) => row.told.map(({ promised }) => promised))),
       ...campaign.unpromised.map((why) => `${why}: this contradicts what the contract promises.`),
       ...refused.map((row) => `Row ${row.number}: the judge doesn't take the program's report: ${row.judge}`),
       ...(campaign.isWhole ? [] : ["It isn't whole: some runs weren't flown."]),
     ];
-    return notes.map((note) => element("p", { class: "more" }, note));
+    return notes.map((words) => note(words));
   }
 
   /**
@@ -176,18 +176,22 @@ class CampaignPanel {
    */
   toolsOf(campaign, other) {
     const others = campaigns.filter((each) => each !== campaign);
-    /** @param {Campaign | null} each */
-    const option = (each) => element("option", { value: each ? campaigns.indexOf(each) : -1, selected: each === other }, each ? this.nameOf(each) : "nothing");
-    const compare = element("select", { onchange: () => this.show(campaign, campaigns[Number(compare.value)] ?? null) }, option(null), ...others.map(option));
-    const all = element("select", { onchange: () => this.choose(campaigns[Number(all.value)]) }, ...campaigns.map((each) => element("option", { value: campaigns.indexOf(each), selected: each === campaign }, this.nameOf(each))));
+    /**
+     * @param {Campaign} each
+     * @param {Campaign | null} chosen
+     */
+    const choice = (each, chosen) => option(campaigns.indexOf(each), this.nameOf(each), each === chosen);
+    const compared = [option(-1, "nothing"), ...others.map((each) => choice(each, other))];
+    const compare = element("select", { onchange: () => this.show(campaign, campaigns[Number(compare.value)] ?? null) }, ...compared);
+    const all = element("select", { onchange: () => this.choose(campaigns[Number(all.value)]) }, ...campaigns.map((each) => choice(each, campaign)));
     return element(
       "div",
       { class: "choices" },
-      others.length > 0 && element("label", {}, "Campaign ", all),
-      others.length > 0 && element("label", {}, "compared with ", compare),
-      element("button", { type: "button", onclick: () => save(`${campaign.name}.tsv`, tableOf(campaign.rows), "text/tab-separated-values") }, "Rows as TSV"),
-      element("button", { type: "button", onclick: () => this.page.store.write(campaign.text, campaign.name) }, "Its mission into the editor"),
-      !campaign.isWhole && element("button", { type: "button", onclick: () => this.conduct(campaign) }, "Go on"),
+      others.length > 0 && label("Campaign ", all),
+      others.length > 0 && label("compared with ", compare),
+      button("Rows as TSV", () => saveRows(campaign)),
+      button("Its mission into the editor", () => this.page.store.write(campaign.text, campaign.name)),
+      !campaign.isWhole && button("Go on", () => this.conduct(campaign)),
     );
   }
 
@@ -229,10 +233,16 @@ class CampaignPanel {
   }
 }
 
+/**
+ * Saves the rows of a campaign, as tools/sweep writes them.
+ * @param {Campaign} campaign
+ */
+export const saveRows = (campaign) => save(`${campaign.name}.tsv`, tableOf(campaign.rows), "text/tab-separated-values");
+
 /** @param {Record<import("./cells.js").Change, number>} count */
 function toldChanges({ better, worse, same, new: more, gone }) {
-  const parts = [`${better} better`, `${worse} worse`, `${same} as before`, ...(more ? [`${more} only here`] : []), ...(gone ? [`${gone} only before`] : [])];
-  return `Of the cells ${parts.join(", ")}.`;
+  const some = [...(more ? [`${more} only here`] : []), ...(gone ? [`${gone} only before`] : [])];
+  return `Of the cells ${[`${better} better`, `${worse} worse`, `${same} as before`, ...some].join(", ")}.`;
 }
 
 /**

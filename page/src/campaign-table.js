@@ -1,6 +1,7 @@
 /** The table of a campaign: slots by units, for each way of lying, each cell a link to the flight of its worst run. */
 import { LOOKS, changeOf } from "./cells.js";
 import { element } from "./elements.js";
+import { heads, tableRow } from "./parts.js";
 
 /** @typedef {import("./cells.js").Cell} Cell */
 /** @typedef {import("./cells.js").Look} Look */
@@ -17,6 +18,9 @@ export const CHANGES = {
   new: ["+", "only here"],
   gone: ["−", "only before"],
 };
+
+const PROMISED = "promised: out in the next frame, or never caught; all else was only seen";
+const LOST = "an output was lost: a unit voted another word than the ideal machine";
 
 /** @param {Look} look */
 const classOf = (look) => `end-${look.replaceAll(" ", "-")}`;
@@ -37,8 +41,10 @@ function cellOf(where, cell, before, compares, open) {
   if (!cell) return element("td", { class: "gone" }, earlier, sign);
   const words = `${where}: ${cell.words}${told ? `; ${told}` : ""}`;
   const { number } = cell.row;
-  const link = element("a", { href: "#campaign", "data-row": number, "aria-label": words, title: words, onclick: (/** @type {MouseEvent} */ event) => open(number, event) }, cell.mark);
-  return element("td", { class: `${classOf(cell.look)}${cell.wrong ? " wrong" : ""}${change ? ` ${change}` : ""}` }, earlier, link, sign ? element("span", { class: "change-sign", "aria-hidden": "true" }, ` ${sign}`) : null);
+  const onclick = (/** @type {MouseEvent} */ event) => open(number, event);
+  const link = element("a", { href: "#campaign", "data-row": number, "aria-label": words, title: words, onclick }, cell.mark);
+  const shown = sign ? element("span", { class: "change-sign", "aria-hidden": "true" }, ` ${sign}`) : null;
+  return element("td", { class: [classOf(cell.look), cell.wrong && "wrong", change].filter(Boolean).join(" ") }, earlier, link, shown);
 }
 
 /**
@@ -51,6 +57,13 @@ export function tablesOf(table, before, open) {
   const slots = [...table.slots, ...(before?.slots.filter((slot) => !table.slots.includes(slot)) ?? [])];
   const kinds = before && before.kinds.length > table.kinds.length ? before.kinds : table.kinds;
   const units = before && before.units.length > table.units.length ? before.units : table.units;
+  /**
+   * @param {string} slot
+   * @param {string} kind
+   * @param {number} unit
+   */
+  const cell = (slot, kind, unit) =>
+    cellOf(`unit ${unit}, ${slot}, ${kind}`, table.at(slot, kind, unit), before?.at(slot, kind, unit), before !== null, open);
   return kinds.map((kind) =>
     element(
       "div",
@@ -59,19 +72,8 @@ export function tablesOf(table, before, open) {
         "table",
         { class: `campaign${before ? " compared" : ""}` },
         element("caption", {}, kind),
-        element("thead", {}, element("tr", {}, element("th", { scope: "col" }, "unit"), ...units.map((unit) => element("th", { scope: "col" }, unit)))),
-        element(
-          "tbody",
-          {},
-          ...slots.map((slot) =>
-            element(
-              "tr",
-              {},
-              element("th", { scope: "row" }, slot),
-              ...units.map((unit) => cellOf(`unit ${unit}, ${slot}, ${kind}`, table.at(slot, kind, unit), before?.at(slot, kind, unit), before !== null, open)),
-            ),
-          ),
-        ),
+        heads(["unit", ...units]),
+        element("tbody", {}, ...slots.map((slot) => tableRow(slot, units.map((unit) => cell(slot, kind, unit))))),
       ),
     ),
   );
@@ -85,12 +87,13 @@ export function tablesOf(table, before, open) {
 export function keyOf(table, compares) {
   const changes = compares ? [CHANGES.better, CHANGES.worse, CHANGES.new, CHANGES.gone] : [];
   const wrong = [...table.cells.values()].some((cell) => cell.wrong);
+  const promised = [...table.cells.values()].some((cell) => cell.promised);
   return element(
     "ul",
     { class: "key campaign-key", "aria-label": "What the marks mean" },
     ...table.looks.map((look) => element("li", {}, element("span", { class: `swatch ${classOf(look)}` }, LOOKS[look][0] ?? "1"), LOOKS[look][1])),
-    [...table.cells.values()].some((cell) => cell.promised) && element("li", {}, element("span", { class: "swatch" }, "!"), "promised: out in the next frame, or never caught; all else was only seen"),
-    wrong && element("li", {}, element("span", { class: "swatch wrong" }, "*"), "an output was lost: a unit voted another word than the ideal machine"),
+    promised && element("li", {}, element("span", { class: "swatch" }, "!"), PROMISED),
+    wrong && element("li", {}, element("span", { class: "swatch wrong" }, "*"), LOST),
     ...changes.map(([sign, words]) => element("li", {}, element("span", { class: "swatch" }, sign), words)),
   );
 }

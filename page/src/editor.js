@@ -85,6 +85,7 @@ function told(editor, { line, place, why, mend }) {
 export function start(_section, { store }) {
   const editor = new Editor(byId("editor"));
   const box = byId("refusal");
+  new ResizeObserver(() => editor.code.refresh()).observe(byId("editor"));
   let fromPage = false;
 
   editor.code.on("change", () => {

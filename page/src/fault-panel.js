@@ -3,7 +3,8 @@ import { statedFaults, withItem, withStorm, withoutFault, withoutItem } from "./
 import { element } from "./elements.js";
 import { Schedule, maskOf, slotName } from "./faults.js";
 import { outlineOf } from "./outline.js";
-import { beginsWords, itemWords } from "./wording.js";
+import { button, label, option, row } from "./parts.js";
+import { beginsWords, itemWords, stormWords } from "./wording.js";
 
 /** @typedef {import("./document.js").State} State */
 /** @typedef {import("./edits.js").StatedFault} StatedFault */
@@ -83,14 +84,12 @@ class FaultPanel {
   stormNumber = number(1, 0, Number.MAX_SAFE_INTEGER, "the number that the strays are drawn from");
   stormStrays = number(100000, 0, 1000000, "how many strays");
   itemRows = [
-    element("div", { class: "row" }, element("label", {}, "in place of ", this.slot), this.meaning),
-    element("div", { class: "row" }, element("label", {}, this.word, " the word"), this.value, this.accused.set, element("label", {}, this.silence, " nothing: silence")),
-    element("div", { class: "row" }, this.to.set),
-    element("div", { class: "row" }, element("label", {}, this.alone, " ", this.aloneWords), element("label", {}, this.lasting, " ", this.lastingWords)),
+    row(label("in place of ", this.slot), this.meaning),
+    row(label(this.word, " the word"), this.value, this.accused.set, label(this.silence, " nothing: silence")),
+    row(this.to.set),
+    row(label(this.alone, " ", this.aloneWords), label(this.lasting, " ", this.lastingWords)),
   ];
-  stormRows = [
-    element("div", { class: "row" }, element("label", {}, "strays drawn from the number ", this.stormNumber), element("label", {}, "how many ", this.stormStrays)),
-  ];
+  stormRows = [row(label("strays drawn from the number ", this.stormNumber), label("how many ", this.stormStrays))];
 
   /**
    * @param {HTMLElement} section
@@ -109,7 +108,7 @@ class FaultPanel {
       event.preventDefault();
       this.put();
     };
-    this.form = element("form", { class: "fault-form", onsubmit: submit, onchange: () => this.adapt() }, ...this.rows(), element("div", { class: "tools" }, this.write));
+    this.form = element("form", { onsubmit: submit, onchange: () => this.adapt() }, ...this.rows(), row(this.write));
     section.append(element("h2", {}, "A fault by hand"), this.told, this.form, this.done);
     store.subscribe((state, changed) => {
       if (changed.has("flown") && state.flown) this.schedule = new Schedule(outlineOf(state.flown.text), []);
@@ -120,8 +119,8 @@ class FaultPanel {
   /** The rows of the form: those of an item, and those of a storm. */
   rows() {
     this.frame.addEventListener("change", () => this.frame.checkValidity() && this.store.update({ frame: Number(this.frame.value) }));
-    const what = [element("label", {}, this.says, " says"), element("label", {}, this.strays, " turns stray, and stores what it likes")];
-    return [element("div", { class: "row" }, element("label", {}, "Unit ", this.unit), element("label", {}, "frame ", this.frame), ...what), ...this.itemRows, ...this.stormRows];
+    const what = [label(this.says, " says"), label(this.strays, " turns stray, and stores what it likes")];
+    return [row(label("Unit ", this.unit), label("frame ", this.frame), ...what), ...this.itemRows, ...this.stormRows];
   }
 
   /** The chosen unit, or the first one. */
@@ -150,7 +149,7 @@ class FaultPanel {
   show(state) {
     if (!this.schedule) return;
     const { units } = this.schedule;
-    if (this.unit.length !== units.length) this.unit.replaceChildren(...units.map((unit) => element("option", { value: unit }, unit)));
+    if (this.unit.length !== units.length) this.unit.replaceChildren(...units.map((unit) => option(unit, unit)));
     this.unit.value = String(this.chosenUnit);
     this.frame.max = String(this.schedule.outline.frames - 1);
     this.frame.value = String(state.frame);
@@ -168,7 +167,8 @@ class FaultPanel {
     this.slots = schedule.slotsOf(this.chosenUnit).filter((slot) => slot.sort !== "relay-report" || slot.index !== this.chosenUnit);
     const options = this.slots.map((slot) => {
       const said = schedule.says(this.chosenUnit, slot, configuration);
-      return element("option", { value: slotName(slot), selected: slotName(slot) === before }, slotName(slot) + (said ? "" : " (not said in this configuration)"));
+      const name = slotName(slot);
+      return option(name, said ? name : `${name} (not said in this configuration)`, name === before);
     });
     this.slot.replaceChildren(...options);
     const first = this.slots.findIndex((slot) => slot.sort === "out" && schedule.says(this.chosenUnit, slot, configuration));
@@ -208,13 +208,15 @@ class FaultPanel {
       this.put(text, "Taken out");
       this.unit.focus(); // the button is gone
     };
-    const items = (say ?? []).map((item, place) =>
-      element("li", {}, itemWords(item, outline), " ", element("button", { type: "button", "aria-label": `take out: ${itemWords(item, outline)}`, onclick: () => write(withoutItem(this.store.state.text, unit, place)) }, "Take out")),
-    );
-    const strays = storm ? element("p", {}, `It turns stray: ${storm.strays.toLocaleString("en-US")} strays, drawn from the number ${storm.number}.`) : null;
+    const items = (say ?? []).map((item, place) => {
+      const words = itemWords(item, outline);
+      const out = button("Take out", () => write(withoutItem(this.store.state.text, unit, place)), { "aria-label": `take out: ${words}` });
+      return element("li", {}, words, " ", out);
+    });
+    const out = button("Take its fault out", () => write(withoutFault(this.store.state.text, unit)));
     this.told.replaceChildren(
-      element("p", {}, `As the mission states it, ${beginsWords(stated)}. `, element("button", { type: "button", onclick: () => write(withoutFault(this.store.state.text, unit)) }, "Take its fault out")),
-      ...(strays ? [strays] : []),
+      element("p", {}, `As the mission states it, ${beginsWords(stated)}. `, out),
+      ...(storm ? [element("p", {}, stormWords(storm))] : []),
       ...(items.length ? [element("ul", {}, ...items)] : []),
     );
   }
@@ -226,7 +228,9 @@ class FaultPanel {
   edited(text) {
     const { frame } = this.store.state;
     const unit = this.chosenUnit;
-    if (this.strays.checked) return withStorm(text, unit, frame, { number: Number(this.stormNumber.value), strays: Number(this.stormStrays.value) });
+    if (this.strays.checked) {
+      return withStorm(text, unit, frame, { number: Number(this.stormNumber.value), strays: Number(this.stormStrays.value) });
+    }
     const slot = this.chosenSlot;
     const named = slot.sort.endsWith("report");
     const value = this.silence.checked ? undefined : named ? maskOf(this.accused.chosen) : Number(this.value.value);
@@ -250,8 +254,9 @@ class FaultPanel {
       this.done.textContent = "Nobody hears it: choose at least one unit.";
       return;
     }
-    const before = this.stated;
-    const words = before && before.from > this.store.state.frame && text === undefined ? `; its fault begins in frame ${this.store.state.frame} now, and so do its items without a frame` : "";
+    const { frame } = this.store.state;
+    const earlier = text === undefined && (this.stated?.from ?? 0) > frame;
+    const words = earlier ? `; its fault begins in frame ${frame} now, and so do its items without a frame` : "";
     this.store.update({ unit: this.chosenUnit });
     this.store.write(text ?? this.edited(this.store.state.text));
     this.done.textContent = `${done}${words}. It is flown again.`;

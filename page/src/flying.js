@@ -17,6 +17,7 @@ export function keepFlying({ store, program }) {
    * @param {string} name
    */
   async function fly(text, name) {
+    performance.clearMarks();
     performance.mark("asked");
     const checked = await program.latest("check", ["check"], text);
     performance.mark("checked");

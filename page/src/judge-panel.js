@@ -2,7 +2,8 @@
 import { DIVIDER } from "./campaign.js";
 import { valueOf } from "./data.js";
 import { element } from "./elements.js";
-import { FlightDrawing } from "./flight.js";
+import { FlightDrawing } from "./flight-drawing.js";
+import { button, note } from "./parts.js";
 import { NoReport, readReport } from "./report.js";
 import { placesOf } from "./verdicts.js";
 
@@ -13,6 +14,9 @@ const NO_FRAME = /^no frame (\d+) rule (\d)$/;
 const NO_LINE = /^report line (\d+)$/;
 const ACCUSATIONS_WITHOUT_KINDS = / bad=[0-7]+\n/; // as version 1 tells them
 
+const ABOUT =
+  "Paste a report that another machine or another simulator wrote. The judge tells whether the mission in the editor may have it, and flies nothing.";
+
 /** The panel. */
 class JudgePanel {
   /**
@@ -21,7 +25,8 @@ class JudgePanel {
    */
   constructor(section, page) {
     this.page = page;
-    this.report = element("textarea", { rows: 12, spellcheck: "false", wrap: "off", id: "judged-report", "aria-label": "The report that is judged" });
+    const given = { rows: 12, spellcheck: "false", wrap: "off", id: "judged-report", "aria-label": "The report that is judged" };
+    this.report = element("textarea", given);
     const file = element("input", { type: "file", accept: ".report,.txt,text/plain" });
     file.addEventListener("change", async () => {
       if (file.files?.[0]) this.report.value = await file.files[0].text();
@@ -31,14 +36,14 @@ class JudgePanel {
     this.host = element("div", { class: "host" });
     section.append(
       element("h2", {}, "A report from elsewhere"),
-      element("p", { class: "more" }, "Paste a report that another machine or another simulator wrote. The judge tells whether the mission in the editor may have it, and flies nothing."),
+      note(ABOUT),
       this.report,
       element(
         "div",
         { class: "tools" },
-        element("button", { type: "button", class: "main", onclick: () => this.judge() }, "Judge"),
+        button("Judge", () => this.judge(), { class: "main" }),
         element("label", { class: "button" }, "Open a file ", file),
-        element("button", { type: "button", onclick: () => this.take() }, "Take the flight's own report"),
+        button("Take the flight's own report", () => this.take()),
       ),
       this.verdict,
       this.host,
@@ -73,7 +78,7 @@ class JudgePanel {
     const marks = frame === undefined ? [] : await placesOf(text, report, Number(frame), Number(rule), this.page.program);
     const more = [
       ...(status === 0 ? ["The mission may have this report: it keeps all that its reports promise."] : []),
-      ...(frame === undefined ? [] : [`Frame ${frame} breaks rule ${rule}, and nothing before it breaks one. A report keeps by it: ${valueOf("judge")[Number(rule) - 1]}.`]),
+      ...(frame === undefined ? [] : [toldRule(frame, Number(rule))]),
       ...(number === undefined ? [] : [toldLine(report, Number(number))]),
       ...(frame === undefined && number === undefined && status !== 0 ? [toldStatus(status)] : []),
     ];
@@ -95,13 +100,22 @@ class JudgePanel {
     this.host.replaceChildren();
     try {
       const flight = readReport(report);
-      const drawing = new FlightDrawing(this.host, () => {}, "The judged report: units by frames");
+      const drawing = new FlightDrawing(this.host, () => {}, "The judged report: units by frames", "judged");
       const last = flight.frames.length - 1;
       drawing.show(flight, marks.map((mark) => ({ ...mark, frame: Math.min(mark.frame, last) })), Math.min(frame, last), null);
     } catch (why) {
       if (!(why instanceof NoReport)) throw why;
     }
   }
+}
+
+/**
+ * Which rule a frame breaks.
+ * @param {string} frame
+ * @param {number} rule
+ */
+function toldRule(frame, rule) {
+  return `Frame ${frame} breaks rule ${rule}, and nothing before it breaks one. A report keeps by it: ${valueOf("judge")[rule - 1]}.`;
 }
 
 /**

@@ -1,5 +1,6 @@
 /** The laboratories: traitors that lie about what others told them, clocks alone, and three buses. */
 import { drawn, element } from "./elements.js";
+import { heads, label, note, option, tableRow } from "./parts.js";
 
 /** @typedef {import("./main.js").Page} Page */
 /** @typedef {import("./program.js").Program} Program */
@@ -62,7 +63,7 @@ function laboratory(title, about, fields, verb, run) {
     "section",
     { class: "laboratory" },
     element("h3", {}, title),
-    element("p", { class: "more" }, about),
+    note(about),
     element("form", { class: "choices", onsubmit: submit }, ...fields, element("button", { type: "submit", class: "main" }, verb)),
     result,
   );
@@ -107,14 +108,14 @@ function vectors(text) {
       "table",
       {},
       element("caption", {}, "The vector of each unit: of each other one the value on which they agree"),
-      element("thead", {}, element("tr", {}, element("th", { scope: "col" }, "unit"), ...units.map((unit) => element("th", { scope: "col" }, `of ${unit}`)))),
+      heads(["unit", ...units.map((unit) => `of ${unit}`)]),
       element(
         "tbody",
         {},
         ...lines.map((found, place) => {
           const words = found?.[2]?.split(",");
           const cells = words ? words.map((word) => element("td", { class: "word" }, word)) : [element("td", { colspan: units.length }, "lies")];
-          return element("tr", {}, element("th", { scope: "row" }, units[place]), ...cells);
+          return tableRow(units[place], cells);
         }),
       ),
     ),
@@ -123,14 +124,18 @@ function vectors(text) {
 
 /** @param {Program} program */
 function clocks(program) {
-  const fields = FIGURES.map(([option, told, value, min, max]) => ({ option, told, input: element("input", { type: "number", value, min, max, required: true }) }));
+  const fields = FIGURES.map(([name, told, value, min, max]) => ({
+    name,
+    told,
+    input: element("input", { type: "number", value, min, max, required: true }),
+  }));
   return laboratory(
     "Clocks alone",
     "Clocks of which some are faulty show anything to anyone. The working ones correct one another, and never differ by more than the skew.",
-    fields.map(({ told, input }) => element("label", {}, `${told} `, input)),
+    fields.map(({ told, input }) => label(`${told} `, input)),
     "Run",
     async () => {
-      const reply = await program.call(["clocks", ...fields.flatMap(({ option, input }) => [`--${option}`, input.value])]);
+      const reply = await program.call(["clocks", ...fields.flatMap(({ name, input }) => [`--${name}`, input.value])]);
       return reply.status === 0 ? [skews(reply.text), whole(reply.text)] : refused(reply);
     },
   );
@@ -147,6 +152,10 @@ function skews(text) {
   const scale = (height - 20) / Math.max(1, Number(bound));
   const step = width / found.length;
   const y = (/** @type {number} */ skew) => height - skew * scale;
+  const bars = found.map((skew, round) => {
+    const place = { x: left + round * step, y: y(skew), width: Math.max(1, step - 1), height: skew * scale };
+    return drawn("rect", { class: "skew-bar", ...place }, drawn("title", {}, `round ${round}: ${skew}`));
+  });
   const words = `The skew of ${found.length} rounds, the start included: at most ${most}, under the bound of ${bound}`;
   return element(
     "figure",
@@ -155,7 +164,7 @@ function skews(text) {
     drawn(
       "svg",
       { width: width + left + 8, height: height + 8, role: "img", "aria-label": words },
-      ...found.map((skew, round) => drawn("rect", { class: "skew-bar", x: left + round * step, y: y(skew), width: Math.max(1, step - 1), height: skew * scale }, drawn("title", {}, `round ${round}: ${skew}`))),
+      ...bars,
       drawn("line", { class: "bound", x1: left, x2: left + width, y1: y(Number(bound)), y2: y(Number(bound)) }),
       drawn("text", { class: "label small", x: left - 6, y: y(Number(bound)) + 4 }, bound),
       drawn("text", { class: "label small", x: left - 6, y: height }, "0"),
@@ -165,13 +174,14 @@ function skews(text) {
 
 /** @param {Page} page */
 function buses({ program, store }) {
-  const bus = element("select", {}, ...[0, 1, 2].map((each) => element("option", { value: each }, each)));
+  const bus = element("select", {}, ...[0, 1, 2].map((each) => option(each, each)));
   const from = element("input", { type: "number", value: 0, min: 0, max: 999, required: true });
   const value = element("input", { type: "number", min: 0, max: 65535, placeholder: "nothing" });
   return laboratory(
     "Three buses",
-    "Each word of the mission in the editor goes over three buses, and who hears it takes the majority. One of them is faulty: it carries the same word in place of all others, or nothing.",
-    [element("label", {}, "bus ", bus), element("label", {}, "faulty from frame ", from), element("label", {}, "carries ", value)],
+    "Each word of the mission in the editor goes over three buses, and who hears it takes the majority. One of them is faulty: " +
+      "it carries the same word in place of all others, or nothing.",
+    [label("bus ", bus), label("faulty from frame ", from), label("carries ", value)],
     "Fly",
     async () => {
       const words = ["buses", "--bus", bus.value, "--from", from.value, ...(value.value === "" ? [] : ["--value", value.value])];
@@ -191,12 +201,15 @@ function carried(text, report) {
   const found = [...text.matchAll(/^f=(\d+) bus=(\d) words=(\d+)$/gm)].map(([, frame, bus, words]) => ({ frame, bus, words: Number(words) }));
   const sum = found.reduce((all, { words }) => all + words, 0);
   const bad = /^buses bad=([0-2])$/m.exec(text)?.[1];
-  const same = text.startsWith(report) ? "The report is the one that the mission has without buses, byte for byte." : "The report is another one than without buses.";
-  const told = bad === undefined ? "The bus got nothing wrong." : `Bus ${bad} is bad: it got ${sum.toLocaleString("en-US")} words wrong, in ${found.length} frames.`;
+  const same = text.startsWith(report) ? "the one that the mission has without buses, byte for byte" : "another one than without buses";
+  const wrong = `Bus ${bad} is bad: it got ${sum.toLocaleString("en-US")} words wrong, in ${found.length} frames.`;
+  const told = `${bad === undefined ? "The bus got nothing wrong." : wrong} The report is ${same}.`;
+  /** @param {(string | number)[]} values */
+  const cells = (values) => values.map((each) => element("td", {}, each));
   return element(
     "div",
     {},
-    element("p", {}, `${told} ${same}`),
+    element("p", {}, told),
     found.length > 0 &&
       element(
         "div",
@@ -205,7 +218,12 @@ function carried(text, report) {
           "table",
           {},
           element("caption", {}, "Words that the bus got wrong"),
-          element("tbody", {}, element("tr", {}, element("th", { scope: "row" }, "frame"), ...found.map(({ frame }) => element("td", {}, frame))), element("tr", {}, element("th", { scope: "row" }, "words"), ...found.map(({ words }) => element("td", {}, words)))),
+          element(
+            "tbody",
+            {},
+            tableRow("frame", cells(found.map(({ frame }) => frame))),
+            tableRow("words", cells(found.map(({ words }) => words))),
+          ),
         ),
       ),
   );

@@ -174,3 +174,19 @@ export function readMission(text) {
 export function wordsOf(mission) {
   return mission.tasks.flatMap((task) => task.start.map((_, word) => `${task.name}.${word}`));
 }
+
+/**
+ * What a unit does wrong in a frame, by the faults that a mission states: it turns stray, says wrong words, or keeps some back.
+ * @param {Mission} mission
+ * @param {number} unit
+ * @param {number} frame
+ * @returns {"stray" | "lies" | "silent" | ""}
+ */
+export function conductOf({ faults }, unit, frame) {
+  const fault = faults.find((each) => each.unit === unit && each.from <= frame);
+  if (!fault) return "";
+  if (fault.storm) return "stray";
+  const items = fault.say.filter((item) => item.frame === null || item.frame === frame);
+  if (items.some((item) => item.value !== null)) return "lies";
+  return items.length > 0 ? "silent" : "";
+}

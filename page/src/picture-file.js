@@ -15,13 +15,17 @@ const ROOM = 1100; // that the frames of a flight get, where they have room in i
  * The rules of the page's own style.
  * @returns {CSSStyleRule[]}
  */
-const rules = () => [...document.styleSheets].flatMap((sheet) => [...sheet.cssRules]).flatMap((rule) => (rule instanceof CSSStyleRule ? [rule] : []));
+function rules() {
+  const all = [...document.styleSheets].flatMap((sheet) => [...sheet.cssRules]);
+  return all.flatMap((rule) => (rule instanceof CSSStyleRule ? [rule] : []));
+}
 
 /** Those that are of drawings, with the colours of light windows. */
 function styles() {
   const colours = rules().find((rule) => rule.selectorText === ":root")?.style;
   const drawings = rules().filter((rule) => rule.selectorText.split(",").every((selector) => selector.trim().startsWith("svg ")));
-  return drawings.map((rule) => rule.cssText.replaceAll(/var\((--[a-z-]+)\)/g, (_, name) => colours?.getPropertyValue(name).trim() ?? "")).join("\n");
+  const text = drawings.map((rule) => rule.cssText).join("\n");
+  return text.replaceAll(/var\((--[a-z-]+)\)/g, (_, name) => colours?.getPropertyValue(name).trim() ?? "");
 }
 
 /**
@@ -45,6 +49,9 @@ export function pictureFile(flight, name) {
     drawn("g", { transform: `translate(${LEFT} ${TOP})` }, ...drawFlight(flight, { first: 0, last: flight.frames.length - 1, cell })),
   );
   // Roles and names are of the page's own grid, which the picture isn't.
-  for (const each of picture.querySelectorAll("[role]")) for (const attribute of [...each.attributes]) if (/^(role|id|aria-.*)$/.test(attribute.name)) each.removeAttribute(attribute.name);
+  for (const each of picture.querySelectorAll("[role]")) {
+    const names = each.getAttributeNames().filter((attribute) => /^(role|id|aria-.*)$/.test(attribute));
+    for (const attribute of names) each.removeAttribute(attribute);
+  }
   return `${new XMLSerializer().serializeToString(picture)}\n`;
 }

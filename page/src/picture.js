@@ -11,12 +11,19 @@ import { catchersOf, caughtBy, groupedByKinds, lookOf, stretchesOf, when } from 
  */
 
 /**
+ * What a faulty unit does in a frame, in a word, or "".
+ * @typedef {(unit: number, frame: number) => string} Conduct
+ */
+
+/**
  * What is drawn: some frames, each so wide.
  * @typedef {object} View
  * @property {number} first
  * @property {number} last
  * @property {number} cell
  * @property {boolean} [partly] whether one sees a part of it at a time, so that words stand again and again
+ * @property {Conduct} [conduct] what faulty units do, where their mission is known
+ * @property {string} [id] what the ids of cells begin with
  * @property {Mark[]} [marks]
  * @property {number} [frame] the frame that is opened
  * @property {number | null} [unit] the unit that is chosen in it
@@ -62,12 +69,14 @@ export const greatestOf = (flight, name) => flight.frames.reduce((most, frame) =
  * @param {Flight} flight
  * @param {number} number
  * @param {number} unit
+ * @param {Conduct} [conduct]
  */
-export function tellUnit(flight, number, unit) {
+export function tellUnit(flight, number, unit, conduct = () => "") {
   const frame = flight.frames[number];
   const by = caughtBy(frame, unit);
   const catches = groupedByKinds([...frame.units[unit].catches]);
-  const words = [`frame ${number}, unit ${unit}: ${LOOKS[lookOf(frame, unit)]}`, ...(by ? [`it is caught by ${by}`] : []), ...(catches ? [`it catches ${catches}`] : [])];
+  const does = conduct(unit, number);
+  const words = [`frame ${number}, unit ${unit}: ${LOOKS[lookOf(frame, unit)]}${does ? `, ${does}` : ""}`, ...(by ? [`it is caught by ${by}`] : []), ...(catches ? [`it catches ${catches}`] : [])];
   return words.join("; ");
 }
 
@@ -163,9 +172,9 @@ class Picture {
         ...this.numbers.map((number) =>
           drawn("rect", {
             role: "gridcell",
-            id: `cell-${unit}-${number}`,
+            id: `${this.view.id ?? "cell"}-${unit}-${number}`,
             "aria-colindex": number + 1,
-            "aria-label": tellUnit(this.flight, number, unit),
+            "aria-label": tellUnit(this.flight, number, unit, this.view.conduct),
             class: lookOf(this.flight.frames[number], unit),
             x: this.x(number),
             y: this.y(unit),
@@ -174,6 +183,21 @@ class Picture {
           }),
         ),
       ),
+    );
+  }
+
+  /** What faulty units do, at the beginning of the frames in which they do so, where there is room beside the box of one that is caught. */
+  conducts() {
+    const { conduct, cell } = this.view;
+    if (!conduct) return [];
+    return Array.from({ length: this.flight.units }, (_, unit) => unit).flatMap((unit) =>
+      stretchesOf(this.numbers.map((number) => (lookOf(this.flight.frames[number], unit) === "faulty" ? conduct(unit, number) : ""))).flatMap(([begin, end, words]) => {
+        const first = this.numbers[begin];
+        const caught = catchersOf(this.flight.frames[first], unit).length > 0;
+        const room = caught ? cell / 2 - 12 : (end - begin + 1) * cell;
+        if (!words || 6 * words.length + 4 > room) return [];
+        return [drawn("text", { class: "conduct", x: this.x(first) + 4, y: this.y(unit) + 14.5 }, words)];
+      }),
     );
   }
 
@@ -241,7 +265,7 @@ class Picture {
     const words = String(value);
     const step = Math.ceil(AGAIN / this.view.cell);
     const places = Array.from({ length: last - first + 1 }, (_, place) => first + place).filter((number) => number === first || (this.view.partly && number % step === 0));
-    const room = wide * words.length + 6;
+    const room = wide * words.length + 4;
     return places
       .filter((number, place) => ((places[place + 1] ?? last + 1) - number) * this.view.cell >= room)
       .map((number) => drawn("text", { class: kind, x: this.x(number) + 3, y }, words));
@@ -315,9 +339,9 @@ class Picture {
       ),
       ...(frame !== undefined && frame >= first && frame <= last
         ? [
-            drawn("rect", { class: "opened", x: this.x(frame) - 1, y: 2, width: cell + 1, height: this.rows.height - 4 }),
+            drawn("rect", { class: "opened", x: this.x(frame) + 1, y: 2, width: cell - 2, height: this.rows.height - 4 }),
             ...(unit !== undefined && unit !== null
-              ? [drawn("rect", { class: "chosen", x: this.x(frame) - 1, y: this.y(unit) - 2, width: cell + 1, height: BAR + 4 })]
+              ? [drawn("rect", { class: "chosen", x: this.x(frame) + 2, y: this.y(unit) - 2, width: cell - 4, height: BAR + 4 })]
               : []),
           ]
         : []),
@@ -325,7 +349,7 @@ class Picture {
   }
 
   all() {
-    return [...this.axis(), ...this.units(), ...this.catches(), ...this.changes(), ...this.steps("skew"), ...this.steps("slack")];
+    return [...this.axis(), ...this.units(), ...this.conducts(), ...this.catches(), ...this.changes(), ...this.steps("skew"), ...this.steps("slack")];
   }
 }
 

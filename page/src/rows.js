@@ -143,6 +143,7 @@ export function headlinesOf(rows) {
     const some = rows.filter((row) => row.told.length === size);
     const outputs = some.filter((row) => row.wrong > 0).length.toLocaleString("en-US");
     const margins = some.filter((row) => row.lost).length.toLocaleString("en-US");
-    return some.length === 0 ? [] : [`${counted(some.length, "run", "runs")} with ${name}: an output was lost in ${outputs}, the margin in ${margins}`];
+    const lost = `an output was lost in ${outputs}, the margin in ${margins}`;
+    return some.length === 0 ? [] : [`${counted(some.length, "run", "runs")} with ${name}: ${lost}`];
   });
 }

@@ -1,14 +1,15 @@
 /** What the user takes away: the document, the report, the picture, the campaign, and a link that holds the document. */
-import { campaigns } from "./campaign-panel.js";
+import { campaigns, saveRows } from "./campaign-panel.js";
 import { element } from "./elements.js";
 import { copy, save } from "./files.js";
 import { linkOf } from "./links.js";
+import { row } from "./parts.js";
 import { pictureFile } from "./picture-file.js";
-import { tableOf } from "./rows.js";
 
 /** @typedef {import("./main.js").Page} Page */
 
 const LONG = 30_000; // letters of a link that some programs cut
+const OF_THE_LINK = "it holds the document itself, behind the #: whoever has this page opens it to the same flight, and no server sees it";
 
 /**
  * A thing to take away.
@@ -18,7 +19,7 @@ const LONG = 30_000; // letters of a link that some programs cut
  */
 function offer(name, about, take) {
   const button = element("button", { type: "button", onclick: take }, name);
-  return { button, row: element("div", { class: "row" }, button, element("span", { class: "more" }, about)) };
+  return { button, row: row(button, element("span", { class: "more" }, about)) };
 }
 
 /**
@@ -29,14 +30,15 @@ export function start(section, { store }) {
   const flown = () => /** @type {import("./document.js").Flown} */ (store.state.flown);
   const mission = offer("Document", "as it stands in the editor", () => save(`${store.state.name}.toml`, store.state.text, "application/toml"));
   const report = offer("Report", "of the flight, as sift run prints it", () => save(`${store.state.name}.report`, flown().report, "text/plain"));
-  const picture = offer("Picture as SVG", "of the flight", () => save(`${store.state.name}.svg`, pictureFile(flown().flight, store.state.name), "image/svg+xml"));
-  const campaign = offer("Campaign as TSV", "the rows of the last one, as tools/sweep writes them", () => {
-    const last = campaigns[campaigns.length - 1];
-    save(`${last.name}.tsv`, tableOf(last.rows), "text/tab-separated-values");
+  const picture = offer("Picture as SVG", "of the flight", () => {
+    const { name } = store.state;
+    save(`${name}.svg`, pictureFile(flown().flight, name), "image/svg+xml");
   });
+  const rows = "the rows of the last one, as tools/sweep writes them";
+  const campaign = offer("Campaign as TSV", rows, () => saveRows(campaigns[campaigns.length - 1]));
   const link = element("input", { type: "text", readonly: true, id: "link", "aria-label": "A link that holds the document" });
   const told = element("p", { role: "status", class: "more" });
-  const copied = offer("Copy the link", "it holds the document itself, behind the #: whoever has this page opens it to the same flight, and no server sees it", async () => {
+  const copied = offer("Copy the link", OF_THE_LINK, async () => {
     const could = await copy(link.value);
     if (!could) link.select();
     told.textContent = could ? "The link is copied." : "The browser doesn't let the page copy: the link is selected, to be copied by hand.";
@@ -49,7 +51,8 @@ export function start(section, { store }) {
     const hash = await linkOf(text);
     if (text !== store.state.text) return;
     link.value = location.href.split("#")[0] + hash;
-    told.textContent = link.value.length > LONG ? `The link has ${link.value.length.toLocaleString("en-US")} letters, and some programs cut such ones.` : "";
+    const letters = link.value.length;
+    told.textContent = letters > LONG ? `The link has ${letters.toLocaleString("en-US")} letters, and some programs cut such ones.` : "";
   }
 
   store.subscribe((state, changed) => {
@@ -58,6 +61,7 @@ export function start(section, { store }) {
     for (const { button } of [report, picture]) button.disabled = !isFlown;
   });
   // Campaigns end while another view is open.
-  new MutationObserver(() => (campaign.button.disabled = campaigns.length === 0)).observe(section, { attributes: true, attributeFilter: ["hidden"] });
+  const opened = new MutationObserver(() => (campaign.button.disabled = campaigns.length === 0));
+  opened.observe(section, { attributes: true, attributeFilter: ["hidden"] });
   campaign.button.disabled = true;
 }

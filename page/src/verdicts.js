@@ -61,15 +61,17 @@ class Case {
 /** @param {Case} it */
 function breaksForm(it) {
   const { mission } = it;
+  const sensors = mission.sensors.length;
   const outputs = mission.tasks.reduce((sum, task) => sum + task.start.length, 0);
   return it.units.flatMap((unit) => {
     const { state, inputs, outputs: votes } = it.frame.units[unit];
     const faulty = it.faulty.includes(unit);
-    return [
-      ...((state === "faulty") !== faulty ? [it.mark(unit, `by the document it ${faulty ? "is faulty" : "works"} in this frame`)] : []),
-      ...(inputs && inputs.length !== mission.sensors.length ? [it.mark(unit, `in has ${inputs.length} words, and the mission has ${mission.sensors.length} sensors`)] : []),
-      ...(votes && votes.length !== outputs ? [it.mark(unit, `out has ${votes.length} words, and the mission has ${outputs} output words`)] : []),
+    const words = [
+      ...((state === "faulty") !== faulty ? [`by the document it ${faulty ? "is faulty" : "works"} in this frame`] : []),
+      ...(inputs && inputs.length !== sensors ? [`in has ${inputs.length} words, and the mission has ${sensors} sensors`] : []),
+      ...(votes && votes.length !== outputs ? [`out has ${votes.length} words, and the mission has ${outputs} output words`] : []),
     ];
+    return words.map((each) => it.mark(unit, each));
   });
 }
 
@@ -114,10 +116,14 @@ function oneFrame(it) {
   const tasks = mission.tasks.map(({ name, start, text, linear }, task) => {
     const last = start.map((word) => (words ? words[at++] : word));
     const held = start.map((_, word) => `out ${word} = last ${name}.${word};`).join(" ");
-    const computes = shed.includes(task) ? `text = "${held}"` : text === null ? `linear = [${linear?.join(", ")}]` : `text = ${JSON.stringify(text).replaceAll("\x7f", "\\u007f")}`;
+    const program = shed.includes(task) ? held : text;
+    const computes = program === null ? `linear = [${linear?.join(", ")}]` : `text = ${JSON.stringify(program).replaceAll("\x7f", "\\u007f")}`;
     return `[[task]]\nname = "${name}"\nstart = [${last.join(", ")}]\n${computes}\n`;
   });
-  const sensors = mission.sensors.map(({ name }, place) => `[[sensor]]\nname = "${name}"\nwords = [${parseInt(it.frame.units[it.lead].inputs?.[place] ?? "0", 16)}]\n`);
+  const sensors = mission.sensors.map(({ name }, place) => {
+    const agreed = parseInt(it.frame.units[it.lead].inputs?.[place] ?? "0", 16);
+    return `[[sensor]]\nname = "${name}"\nwords = [${agreed}]\n`;
+  });
   return `units = 4\nframes = 1\n${sensors.join("")}${tasks.join("")}`;
 }
 
@@ -156,7 +162,8 @@ function breaksRemovals(it) {
   const after = number + 1 < flight.frames.length ? new Case(mission, flight, number + 1) : null;
   const told = after ? after.configuration : flight.last;
   const caught = by.filter(({ others }) => others.length).map(({ unit, others }) => `unit ${unit} is caught by ${others.join(" ")}`);
-  const words = `the configuration is ${setOf(told ?? [])}, and ${setOf(due)} is due: in frame ${number} ${caught.join(", ") || "nobody is caught"}`;
+  const why = `in frame ${number} ${caught.join(", ") || "nobody is caught"}`;
+  const words = `the configuration is ${setOf(told ?? [])}, and ${setOf(due)} is due: ${why}`;
   return [after ? after.mark(after.lead ?? null, words) : it.mark(null, words)];
 }
 
@@ -184,7 +191,8 @@ function breaksMargin(it) {
     const faulty = members.filter((unit) => each.faulty.includes(unit));
     const working = members.filter((unit) => each.working.includes(unit));
     if (faulty.length > 1 || working.length < 4) {
-      const since = faulty.length ? `, since in frame ${number} ${faulty.join(" and ")} of ${setOf(members)} are faulty, and ${working.length} work` : "";
+      const counts = `${faulty.length} of ${setOf(members)} are faulty, and ${working.length} work`;
+      const since = `, since in frame ${number} ${counts}`;
       return [it.mark(null, `the margin that is due is lost${since}`)];
     }
   }
@@ -208,7 +216,8 @@ export async function placesOf(text, report, number, rule, program) {
     const mission = readMission(text);
     const flight = readReport(report);
     if (flight.units !== mission.units || flight.frames.length !== mission.frames) {
-      const told = `the report has ${flight.units} units and ${flight.frames.length} frames, and the mission has ${mission.units} and ${mission.frames}`;
+      const has = `the report has ${flight.units} units and ${flight.frames.length} frames`;
+      const told = `${has}, and the mission has ${mission.units} and ${mission.frames}`;
       return [{ frame: number, unit: null, words: told }];
     }
     const it = new Case(mission, flight, Math.min(number, flight.frames.length - 1));

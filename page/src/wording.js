@@ -35,5 +35,8 @@ export function itemWords(item, outline) {
   return `${when} it says ${said}${named} as ${slot} to ${[...item.to].join(" ")}`;
 }
 
+/** @param {import("./edits.js").Storm} storm */
+export const stormWords = ({ number, strays }) => `It turns stray: ${strays.toLocaleString("en-US")} strays, drawn from the number ${number}.`;
+
 /** @param {StatedFault} fault */
 export const beginsWords = ({ unit, from }) => `unit ${unit} is faulty from frame ${from} on`;

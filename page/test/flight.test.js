@@ -3,7 +3,7 @@ import assert from "node:assert/strict";
 import { readFileSync, readdirSync } from "node:fs";
 import { test } from "node:test";
 import { eventsOf, headlineOf, slackOf } from "../src/events.js";
-import { readMission } from "../src/mission.js";
+import { conductOf, readMission } from "../src/mission.js";
 import { NoReport, lookOf, readReport } from "../src/report.js";
 import { statedBy } from "../src/stated.js";
 import { withTables } from "../src/tables.js";
@@ -48,6 +48,17 @@ test("stray units, false reports and tasks that are shed are told", () => {
   assert.deepEqual(told("stray_writer"), ["frame 10: unit 5 is stray: 100,000 strays are drawn from the number 1"]);
   assert.ok(told("shed_display").includes("frames 3 to 5: display is shed; what stands in `out` is held from before"));
   assert.ok(told("false_accuser").some((words) => /says \d+ \(.* caught\) as report to/.test(words)));
+});
+
+test("what a faulty unit does is told by the faults of the mission", () => {
+  /** @param {string} name */
+  const mission = (name) => readMission(fileOf(`${name}.toml`));
+  assert.equal(conductOf(mission("first_5_liar"), 1, 1), "");
+  assert.equal(conductOf(mission("first_5_liar"), 1, 2), "lies");
+  assert.equal(conductOf(mission("stray_writer"), 5, 10), "stray");
+  assert.equal(conductOf(mission("silent_unit"), 3, 1), "silent");
+  assert.equal(conductOf(mission("eight_units"), 5, 145), "");
+  assert.equal(conductOf(mission("eight_units"), 5, 150), "lies");
 });
 
 test("a unit that is faulty and out looks otherwise than one that is in", () => {

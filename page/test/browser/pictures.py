@@ -5,7 +5,7 @@ import tempfile
 
 from chromium import Chromium
 from scenarios import read, swept
-from waiting import flown, opened, show, wait
+from waiting import chosen, flown, opened, show, wait
 
 SIZES = {"wide": (1400, 900), "narrow": (420, 900)}
 
@@ -16,7 +16,8 @@ def flight(page, top):
 
 def fault(page, top):
     show(page, "flight-view")
-    page.run("const slot = document.querySelector('#fault select[name=slot]'); slot.value = 'report'; slot.dispatchEvent(new Event('change', {bubbles: true})); document.getElementById('fault').scrollIntoView()")
+    chosen(page, "#fault select[name=slot]", "report")
+    page.run("document.getElementById('fault').scrollIntoView()")
 
 
 def schedule(page, top):

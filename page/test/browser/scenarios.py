@@ -6,7 +6,7 @@ import shutil
 import subprocess
 
 from selenium.webdriver.common.keys import Keys
-from waiting import REPORT, Fault, demand, flown, opened, show, wait
+from waiting import REPORT, Fault, chosen, demand, flown, opened, pressed, show, wait
 
 EDITOR = "document.querySelector('.CodeMirror').CodeMirror"
 LARGEST = 3_000_000  # bytes of the page
@@ -36,6 +36,15 @@ def in_time(what, milliseconds, most):
     return f"{what} {milliseconds:.0f} ms"
 
 
+def cell(unit, frame):
+    """What the drawing has of a unit in a frame, as an expression."""
+    return f"document.querySelector('#flight [aria-rowindex=\"{unit + 1}\"] [aria-colindex=\"{frame + 1}\"]')"
+
+
+def looks(unit, frame, look):
+    return f"{cell(unit, frame)}?.getAttribute('class') === '{look}'"
+
+
 def text_of(page):
     return page.run(f"return {EDITOR}.getValue()")
 
@@ -63,8 +72,9 @@ def each_example_has_its_report(page, address, top):
     flown(page)
     show(page, "take")
     for name in names(top):
-        page.run("const list = document.getElementById('examples'); list.value = arguments[0]; list.dispatchEvent(new Event('change', {bubbles: true}))", name)
-        wait(page, f"return document.getElementById('status').textContent === 'flown' && {EDITOR}.getValue() === {json.dumps(read(f'{top}/missions/{name}.toml'))}", 60, name)
+        chosen(page, "#examples", name)
+        text = json.dumps(read(f"{top}/missions/{name}.toml"))
+        wait(page, f"return document.getElementById('status').textContent === 'flown' && {EDITOR}.getValue() === {text}", 60, name)
         page.click("#take .row:nth-of-type(2) button")
         demand(page.saved(f"{name}.report") == read(f"{top}/missions/{name}.report").encode(), f"{name} has another report")
     page.click("#take .row:nth-of-type(1) button")
@@ -112,8 +122,8 @@ def each_mistake_has_its_line(page, address, top):
         if place and f"line {place[1]}," not in shown:
             elsewhere.append(f"{name} ({shown}, not line {place[1]})")
     demand(tried > 100, f"only {tried} mistakes were tried")
-    demand(len(elsewhere) <= tried // 8, f"{len(elsewhere)} of {tried} are shown in another line: {', '.join(elsewhere)}")
-    return f"{tried} mistakes, of which {len(elsewhere)} are shown in another line than tools/explain's"
+    demand(not elsewhere, f"{len(elsewhere)} of {tried} are shown in another line: {', '.join(elsewhere)}")
+    return f"{tried} mistakes"
 
 
 def a_keystroke_is_checked_soon(page, address, top):
@@ -129,7 +139,10 @@ def a_keystroke_is_checked_soon(page, address, top):
           for (let stroke = 0; stroke < 3; stroke += 1) {{
             const began = performance.now();
             const end = {{line: code.lastLine(), ch: 0}};
-            const told = new Promise((resolve) => new MutationObserver((_, watch) => {{ if (box.textContent) {{ watch.disconnect(); resolve(); }} }}).observe(box, {{childList: true, subtree: true}}));
+            const told = new Promise((resolve) => {{
+              const watch = new MutationObserver(() => {{ if (box.textContent) {{ watch.disconnect(); resolve(); }} }});
+              watch.observe(box, {{childList: true, subtree: true}});
+            }});
             code.replaceRange("x", end, end, "+input");
             await told;
             times.push(performance.now() - began);
@@ -151,21 +164,20 @@ def a_fault_is_clicked(page, address, top):
     page.open(address)
     flown(page)
     before = text_of(page)
-    cell = page.run("const box = document.getElementById('cell-3-1').getBoundingClientRect(); return [box.x + box.width / 2, box.y + box.height / 2]")
-    page.run("document.elementFromPoint(...arguments[0]).dispatchEvent(new MouseEvent('click', {bubbles: true, clientX: arguments[0][0], clientY: arguments[0][1]}))", cell)
+    page.click('#flight [aria-rowindex="4"] [aria-colindex="2"]')
     demand(page.run("return document.querySelector('#fault select[name=unit]').value") == "3", "the panel has another unit")
-    demand(page.run("return document.getElementById('cell-3-1').getAttribute('class')") == "works", "unit 3 doesn't work before")
-    page.run("const slot = document.querySelector('#fault select[name=slot]'); slot.value = 'out elevator.0'; slot.dispatchEvent(new Event('change', {bubbles: true}))")
-    took = page.answer("""
+    demand(page.run(f"return {looks(3, 1, 'works')}"), "unit 3 doesn't work before")
+    chosen(page, "#fault select[name=slot]", "out elevator.0")
+    took = page.answer(f"""
       const began = performance.now();
       document.querySelector("#fault button[type=submit]").click();
-      while (document.getElementById("cell-3-1")?.getAttribute("class") !== "faulty") await new Promise((resolve) => setTimeout(resolve, 5));
+      while (!({looks(3, 1, "faulty")})) await new Promise((resolve) => setTimeout(resolve, 5));
       return performance.now() - began;
     """)
     added = '\n[[fault]]\nunit = 3\nfrom = 1\n\n[[fault.say]]\nslot = "out"\nindex = 1\nword = 0\nto = "0124"\nvalue = 999\n'
     demand(text_of(page) == before + added, f"the document is another one: {text_of(page)[len(before):]}")
     page.click("#fault .stated > p button")
-    wait(page, "return document.getElementById('cell-3-1').getAttribute('class') === 'works'", what="unit 3 works again")
+    wait(page, f"return {looks(3, 1, 'works')}", what="unit 3 works again")
     demand(text_of(page) == before, "the document isn't what it was")
     return in_time("the flight with the fault", took, LONGEST_FAULT)
 
@@ -176,7 +188,7 @@ def a_unit_turns_stray(page, address, top):
     page.run("document.querySelector('#fault input[value=storm]').click()")
     page.click("#fault button[type=submit]")
     frame = page.run("return document.querySelector('#fault input[type=number]').value")
-    wait(page, f"return document.getElementById('cell-0-{frame}').getAttribute('class') === 'faulty'", what="unit 0 is faulty")
+    wait(page, f"return {looks(0, int(frame), 'faulty')}", what="unit 0 is faulty")
     demand(f"unit = 0\nfrom = {frame}\n\n[fault.storm]\nnumber = 1\nstrays = 100000\n" in text_of(page), "there is no storm in the document")
 
 
@@ -203,7 +215,7 @@ def rows_of(page, top, name, moments="0"):
     show(page, "campaign")
     page.run("document.querySelector('#campaign input[type=text]').value = arguments[0]", moments)
     swept(page)
-    page.run("[...document.querySelectorAll('#campaign button')].find((each) => each.textContent === 'Rows as TSV').click()")
+    pressed(page, "campaign", "Rows as TSV")
     return page.saved(f"{name}.tsv").decode()
 
 
@@ -256,25 +268,39 @@ def a_campaign_is_stopped_and_goes_on(page, address, top):
     show(page, "campaign")
     page.click("#campaign button[type=submit]")
     wait(page, "return document.querySelector('#campaign progress').value > 2", 120, "the campaign goes on")
-    page.run("[...document.querySelectorAll('#campaign button')].find((each) => each.textContent === 'Stop').click()")
+    pressed(page, "campaign", "Stop")
     wait(page, "return document.querySelector('#campaign [role=status]').textContent.startsWith('stopped: ')", 20, "the campaign is stopped")
-    demand(page.run("return document.querySelector('#campaign .result').textContent.includes('It isn’t whole') || document.querySelector('#campaign .result').textContent.includes(\"It isn't whole\")"), "it isn't said that the campaign isn't whole")
+    demand("It isn't whole" in page.run("return document.querySelector('#campaign .result').textContent"), "it isn't said that the campaign isn't whole")
     before = page.run("return document.querySelector('#campaign progress').value")
-    page.run("[...document.querySelectorAll('#campaign button')].find((each) => each.textContent === 'Go on').click()")
+    pressed(page, "campaign", "Go on")
     wait(page, f"return document.querySelector('#campaign progress').value > {before} + 2", 120, "the campaign goes on after it was stopped")
-    page.run("[...document.querySelectorAll('#campaign button')].find((each) => each.textContent === 'Stop').click()")
+    pressed(page, "campaign", "Stop")
     wait(page, "return document.querySelector('#campaign [role=status]').textContent.startsWith('stopped: ')", 20, "the campaign is stopped again")
 
 
 # Large missions.
 
 
+def sensor_of(number):
+    words = ", ".join(str((number * 77 + step * 13) % 500) for step in range(40))
+    return f'[[sensor]]\nname = "s{number}"\nwords = [{words}]\n'
+
+
+def task_of(number):
+    computes = f"out 0 = last t{number}.0 + sense s{number % 8}; out 1 = last t{number}.0; out 2 = last t{number}.1;"
+    return f'[[task]]\nname = "t{number}"\nstart = [{number}, 1, 2, 3]\ntext = "{computes} out 3 = sense s{(number + 3) % 8} * 3;"\n'
+
+
+def fault_of(unit, begin):
+    to = "".join(str(each) for each in range(8) if each != unit)
+    return f'[[fault]]\nunit = {unit}\nfrom = {begin}\n[[fault.say]]\nslot = "out"\nindex = {unit}\nword = 0\nto = "{to}"\nvalue = 999\n'
+
+
 def largest(frames):
-    """A mission with all units, and so many frames; each unit reads a sensor, and four units fail in turn."""
-    sensors = "".join(f'[[sensor]]\nname = "s{number}"\nwords = [{", ".join(str((number * 77 + step * 13) % 500) for step in range(40))}]\n' for number in range(8))
-    tasks = "".join(f'[[task]]\nname = "t{number}"\nstart = [{number}, 1, 2, 3]\ntext = "out 0 = last t{number}.0 + sense s{number % 8}; out 1 = last t{number}.0; out 2 = last t{number}.1; out 3 = sense s{(number + 3) % 8} * 3;"\n' for number in range(16))
-    faults = "".join(f'[[fault]]\nunit = {unit}\nfrom = {begin}\n[[fault.say]]\nslot = "out"\nindex = {unit}\nword = 0\nto = "{"".join(str(each) for each in range(8) if each != unit)}"\nvalue = 999\n' for unit, begin in ((7, frames // 5), (6, frames // 3), (5, frames // 2), (4, frames * 2 // 3)))
-    return f"units = 8\nframes = {frames}\n{sensors}{tasks}{faults}"
+    """A mission with all units, sensors and output words, and so many frames; four units fail in turn."""
+    sensors, tasks = "".join(map(sensor_of, range(8))), "".join(map(task_of, range(16)))
+    begins = (7, frames // 5), (6, frames // 3), (5, frames // 2), (4, frames * 2 // 3)
+    return f"units = 8\nframes = {frames}\n{sensors}{tasks}{''.join(fault_of(*each) for each in begins)}"
 
 
 def a_thousand_frames_are_drawn_and_scrolled(page, address, top):
@@ -299,17 +325,22 @@ def a_thousand_frames_are_drawn_and_scrolled(page, address, top):
       return gaps.sort((one, other) => one - other);
     """)
     demand(not isinstance(gaps, dict), str(gaps))
-    demand(page.run("return document.getElementById('cell-7-999') !== null"), "the last frame isn't drawn at the end")
+    demand(page.run(f"return {cell(7, 999)} !== null"), "the last frame isn't drawn at the end")
     middle, worst = gaps[len(gaps) // 2], gaps[-3]
     in_time("a step of scrolling, in the middle,", middle, 34)
-    return f"{in_time('reading and drawing', drawing, LONGEST_DRAWING)}; flown in {told['milliseconds']:.0f} ms; a step of scrolling {middle:.0f} ms, and of the slowest {worst:.0f}"
+    drawn = in_time("reading and drawing", drawing, LONGEST_DRAWING)
+    return f"{drawn}; flown in {told['milliseconds']:.0f} ms; a step of scrolling {middle:.0f} ms, and of the slowest {worst:.0f}"
 
 
 # Keys, and readers of screens.
 
 
 def active(page):
-    return page.run("const it = document.activeElement; return `${it.tagName} ${it.id} ${it.getAttribute('role') ?? ''} ${it.name ?? ''} ${it.closest('.CodeMirror') ? 'editor' : ''} ${it.closest('section[id]')?.id ?? ''} ${it.textContent.slice(0, 30)}`")
+    """What is focused: its tag, id, role, whether it is the editor, and its first letters."""
+    return page.run("""
+      const it = document.activeElement;
+      return [it.tagName, it.id, it.getAttribute("role") ?? "", it.closest(".CodeMirror") ? "editor" : "", it.textContent.slice(0, 30)].join(" ");
+    """)
 
 
 def tabbed(page, wanted, most=60):
@@ -344,7 +375,7 @@ def all_is_done_by_keys(page, address, top):
     demand(page.run("return document.querySelector('#fault select[name=unit]').value") == "1", "arrow keys choose no unit")
     tabbed(page, "Write it into")
     page.keys(Keys.ENTER)
-    wait(page, "return document.getElementById('cell-1-0').getAttribute('class') === 'faulty'", what="the fault by keys is flown")
+    wait(page, f"return {looks(1, 0, 'faulty')}", what="the fault by keys is flown")
     page.run("document.getElementById('flight-view-tab').focus()")
     page.keys(Keys.ARROW_RIGHT, Keys.ARROW_RIGHT)
     demand(page.run("return !document.getElementById('campaign').hidden"), "arrow keys don't open a view")
@@ -363,7 +394,8 @@ def everything_has_a_name(page, address, top):
     show(page, "campaign")
     swept(page)
     nameless = page.run("""
-      const named = (it) => it.getAttribute("aria-label") || it.getAttribute("aria-labelledby") || it.labels?.length || it.textContent.trim() || it.title || it.closest("[aria-hidden=true]");
+      const named = (it) => ["aria-label", "aria-labelledby", "title"].some((name) => it.getAttribute(name))
+        || it.labels?.length || it.textContent.trim() || it.closest("[aria-hidden=true]");
       return [...document.querySelectorAll("button, select, input, textarea, a, [role=grid], [role=img], [role=tabpanel], progress")]
         .filter((it) => !it.closest("template") && !named(it)).map((it) => it.outerHTML.slice(0, 120));
     """)
@@ -468,7 +500,10 @@ def no_markup_of_a_document_runs(page, address, top):
     page.open(f"{address}#document={MARKUP}")
     flown(page)
     demand(page.run("return window.harmed === undefined"), "markup of a document ran")
-    made = page.run("return [...document.querySelectorAll('img, script:not([id^=data-])')].filter((each) => !each.closest('#help')).map((each) => each.outerHTML.slice(0, 80))")
+    made = page.run("""
+      const made = [...document.querySelectorAll("img, script:not([id^=data-])")].filter((each) => !each.closest("#help"));
+      return made.map((each) => each.outerHTML.slice(0, 80));
+    """)
     demand(len(made) == 1, f"markup of a document became elements: {made[1:]}")
 
 
@@ -551,7 +586,8 @@ def a_report_is_judged(page, address, top):
         ("f=0 u=0 cfg=01234 clk=0\n", "report line 1", "Line 1"),
     ]
     for given, line, words in changes:
-        page.run("document.querySelector('#judge .verdict').replaceChildren(); document.getElementById('judged-report').value = arguments[0]; document.querySelector('#judge button.main').click()", given)
+        page.run("document.querySelector('#judge .verdict').replaceChildren(); document.getElementById('judged-report').value = arguments[0]", given)
+        pressed(page, "judge", "Judge")
         told = wait(page, "return document.querySelector('#judge .verdict strong')?.textContent")
         demand(told == line, f"the verdict is {told}, and {line} is due")
         whole = page.run("return document.querySelector('#judge .verdict').textContent")

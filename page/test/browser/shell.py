@@ -22,8 +22,7 @@ def a_frame_is_opened(page, address, top):
         return table && [...table.tBodies[0].rows].map((row) => [...row.cells].map((cell) => cell.textContent).join(' '))""")
     demand(rows == ["count.0 0 1 0010 0010 0010 0010 0007 0010 unit 4", "2 3 0010 0010 0010 0010 0010 0010 –"], f"the votes are told as {rows}")
     page.click("#frame input[type=checkbox]")
-    words = wait(page, "return [...document.querySelectorAll('#frame td.differs')].map((each) => each.textContent).join(' ')")
-    demand(words == "7", f"in decimal the word that differs is {words}")
+    wait(page, "return [...document.querySelectorAll('#frame td.differs')].map((each) => each.textContent).join(' ') === '7'", what="the word that differs, in decimal")
 
 
 def the_planner_writes_tables(page, address, top):

@@ -66,3 +66,13 @@ def opened(page, name, text):
 def show(page, view):
     """Opens a view of the page."""
     page.run("document.getElementById(arguments[0] + '-tab').click()", view)
+
+
+def chosen(page, selector, value):
+    """Chooses a value of a list."""
+    page.run("const list = document.querySelector(arguments[0]); list.value = arguments[1]; list.dispatchEvent(new Event('change', {bubbles: true}))", selector, value)
+
+
+def pressed(page, view, words):
+    """Presses the button of a view that has these words."""
+    page.run("[...document.querySelectorAll(`#${arguments[0]} button`)].find((each) => each.textContent === arguments[1]).click()", view, words)
