@@ -141,17 +141,21 @@ class CampaignPanel {
    */
   show(campaign, other) {
     const table = new Table(campaign.rows, campaign.slots);
+    /** @type {import("./campaign-table.js").Links} */
+    const links = {
+      open: (row, event) => this.open(campaign, row, event),
+      point: async (row, link) => link.setAttribute("href", await linkOf(campaign.documentOf(row))),
+    };
     const before = other && new Table(other.rows, other.slots);
     this.result.replaceChildren(
       ...headlinesOf(campaign.rows).map((line) => element("h3", {}, `${campaign.name}: ${line}`)),
       ...this.notesOf(campaign),
       this.toolsOf(campaign, other),
       ...(before ? [element("p", {}, toldChanges(changesOf(before, table)))] : []),
-      element("div", { class: "campaigns" }, ...tablesOf(table, before, (row, event) => this.open(campaign, row, event))),
+      element("div", { class: "campaigns" }, ...tablesOf(table, before, links)),
       keyOf(table, before !== null),
       note("Each mark opens the flight of its worst run. With several moments a cell has the worst of them."),
     );
-    this.link(campaign);
   }
 
   /** @param {Campaign} campaign */
@@ -218,18 +222,6 @@ class CampaignPanel {
     this.page.store.update({ frame: begin, unit });
     this.page.store.write(campaign.documentOf(row), `${campaign.name.replace(/_row_\d+$/, "")}_row_${row}`);
     this.page.show("flight-view");
-  }
-
-  /**
-   * Gives each cell the link that holds its document.
-   * @param {Campaign} campaign
-   */
-  async link(campaign) {
-    for (const link of /** @type {NodeListOf<HTMLAnchorElement>} */ (this.result.querySelectorAll("a[data-row]"))) {
-      const hash = await linkOf(campaign.documentOf(Number(link.dataset.row)));
-      if (!link.isConnected) return;
-      link.setAttribute("href", hash);
-    }
   }
 }
 

@@ -2,10 +2,17 @@
 import { LOOKS, changeOf } from "./cells.js";
 import { element } from "./elements.js";
 import { heads, tableRow } from "./parts.js";
+import { KINDS } from "./slots.js";
 
 /** @typedef {import("./cells.js").Cell} Cell */
 /** @typedef {import("./cells.js").Look} Look */
 /** @typedef {import("./cells.js").Table} Table */
+
+/**
+ * What a cell's link does: `open` shows the flight of a row, and `point` gives the link its address, where one comes to it. An
+ * address has a whole document in it, so that not all cells have theirs at once.
+ * @typedef {{open: (row: number, event: MouseEvent) => void, point: (row: number, link: HTMLAnchorElement) => void}} Links
+ */
 
 /**
  * The signs of changes, which no colour is needed to tell apart.
@@ -26,23 +33,34 @@ const LOST = "an output was lost: a unit voted another word than the ideal machi
 const classOf = (look) => `end-${look.replaceAll(" ", "-")}`;
 
 /**
+ * The mark of a cell, which opens its flight.
+ * @param {Cell} cell
+ * @param {string} words
+ * @param {Links} links
+ */
+function linkOf({ row: { number }, mark }, words, { open, point }) {
+  const onclick = (/** @type {MouseEvent} */ event) => open(number, event);
+  const link = element("a", { href: "#campaign", "aria-label": words, title: words, onclick }, mark);
+  for (const coming of ["pointerenter", "focus"]) link.addEventListener(coming, () => point(number, link), { once: true });
+  return link;
+}
+
+/**
  * A cell: its mark, which opens its flight; and before it, where campaigns are compared and it differs, the mark of before.
  * @param {string} where in words
  * @param {Cell | undefined} cell
  * @param {Cell | undefined} before
  * @param {boolean} compares
- * @param {(row: number, event: MouseEvent) => void} open
+ * @param {Links} links
  */
-function cellOf(where, cell, before, compares, open) {
+function cellOf(where, cell, before, compares, links) {
   const change = compares ? changeOf(before, cell) : null;
   if (!cell && !before) return element("td", {});
   const [sign, told] = change ? CHANGES[change] : ["", ""];
   const earlier = change && change !== "same" && before ? element("span", { class: "before" }, `${before.mark} →`) : null;
   if (!cell) return element("td", { class: "gone" }, earlier, sign);
   const words = `${where}: ${cell.words}${told ? `; ${told}` : ""}`;
-  const { number } = cell.row;
-  const onclick = (/** @type {MouseEvent} */ event) => open(number, event);
-  const link = element("a", { href: "#campaign", "data-row": number, "aria-label": words, title: words, onclick }, cell.mark);
+  const link = linkOf(cell, words, links);
   const shown = sign ? element("span", { class: "change-sign", "aria-hidden": "true" }, ` ${sign}`) : null;
   return element("td", { class: [classOf(cell.look), cell.wrong && "wrong", change].filter(Boolean).join(" ") }, earlier, link, shown);
 }
@@ -51,11 +69,11 @@ function cellOf(where, cell, before, compares, open) {
  * The tables of all ways of lying.
  * @param {Table} table
  * @param {Table | null} before what it is compared with
- * @param {(row: number, event: MouseEvent) => void} open
+ * @param {Links} links
  */
-export function tablesOf(table, before, open) {
+export function tablesOf(table, before, links) {
   const slots = [...table.slots, ...(before?.slots.filter((slot) => !table.slots.includes(slot)) ?? [])];
-  const kinds = before && before.kinds.length > table.kinds.length ? before.kinds : table.kinds;
+  const kinds = KINDS.filter((kind) => table.kinds.includes(kind) || before?.kinds.includes(kind));
   const units = before && before.units.length > table.units.length ? before.units : table.units;
   /**
    * @param {string} slot
@@ -63,7 +81,7 @@ export function tablesOf(table, before, open) {
    * @param {number} unit
    */
   const cell = (slot, kind, unit) =>
-    cellOf(`unit ${unit}, ${slot}, ${kind}`, table.at(slot, kind, unit), before?.at(slot, kind, unit), before !== null, open);
+    cellOf(`unit ${unit}, ${slot}, ${kind}`, table.at(slot, kind, unit), before?.at(slot, kind, unit), before !== null, links);
   return kinds.map((kind) =>
     element(
       "div",

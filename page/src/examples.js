@@ -60,5 +60,6 @@ export function start(section, { store }) {
 
   store.subscribe((state) => {
     select.value = missions[state.name] === state.text ? state.name : "";
+    document.title = `${state.name} – sift`;
   });
 }

@@ -26,15 +26,21 @@ function key() {
   );
 }
 
+const MOST_EVENTS = 300;
+
 /**
  * What happened, in words, each of which opens its frame.
  * @param {import("./document.js").Flown} flown
  * @param {(frame: number) => void} open
  */
 function eventList({ flight, mission }, open) {
-  return eventsOf(flight, statedBy(mission, flight)).map(({ frame, words }) =>
-    element("li", {}, element("button", { type: "button", class: "event", onclick: () => open(Math.min(frame, flight.frames.length - 1)) }, ...prose(words))),
+  const events = eventsOf(flight, statedBy(mission, flight));
+  const last = flight.frames.length - 1;
+  const shown = events.slice(0, MOST_EVENTS).map(({ frame, words }) =>
+    element("li", {}, element("button", { type: "button", class: "event", onclick: () => open(Math.min(frame, last)) }, ...prose(words))),
   );
+  const more = events.length - shown.length;
+  return [...shown, ...(more > 0 ? [element("li", {}, `and ${more} more, which tools/picture --text tells`)] : [])];
 }
 
 /**

@@ -3,7 +3,7 @@ import os
 import subprocess
 import tempfile
 
-from waiting import REPORT, demand, flown, opened
+from waiting import REPORT, demand, flown, opened, pressed, show, wait
 
 PLAIN = (["run"], ["check"])  # the words of the cases that a document in the editor is
 
@@ -56,4 +56,24 @@ def agrees(page, name, given, word, due):
     return due == "ok\n" if word == "check" else page.run(REPORT) == due
 
 
-SCENARIOS = [first_example, cases]
+def campaign_and_link(page, address, top):
+    """A campaign is flown by workers, and a link opens to the same flight."""
+    page.open(address)
+    flown(page)
+    show(page, "campaign")
+    pressed(page, "campaign", "Fly all")
+    wait(page, "return document.querySelector('#campaign .campaigns table')", 120, "the campaign is flown")
+    told = page.run("return document.querySelector('#campaign h3').textContent")
+    demand("132 runs with a single fault: an output was lost in 3, the margin in 0" in told, f"the campaign tells: {told}")
+    marks = page.run("return [...document.querySelectorAll('#campaign tbody tr:nth-child(2) td')].map((each) => each.textContent).join(' ').trim()")
+    demand(marks.split() == ["b*", "."] * 3, f"the marks of the sensor are: {marks}")
+    with open(f"{top}/missions/count.toml", encoding="utf-8") as file:
+        opened(page, "count.toml", file.read())
+    report = page.run(REPORT)
+    link = wait(page, "return document.getElementById('link').value")
+    page.open(link)
+    flown(page)
+    demand(page.run(REPORT) == report, "the link opens another flight")
+
+
+SCENARIOS = [first_example, campaign_and_link, cases]
