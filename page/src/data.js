@@ -21,4 +21,9 @@ export const valueOf = (name) => JSON.parse(textOf(name));
  * The bytes of a block in base64.
  * @param {string} name
  */
-export const bytesOf = (name) => Uint8Array.from(atob(textOf(name)), (letter) => letter.charCodeAt(0));
+export function bytesOf(name) {
+  const letters = atob(textOf(name));
+  const bytes = new Uint8Array(letters.length);
+  for (let place = 0; place < letters.length; place++) bytes[place] = letters.charCodeAt(place);
+  return bytes;
+}

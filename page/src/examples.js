@@ -12,7 +12,7 @@ const FIRST = [
   ["past_the_margin", "three at once: margin lost"],
   ["stray_writer", "a unit that runs wild"],
   ["shed_display", "a task is shed"],
-  ["rudder", "placed tables"],
+  ["rudder", "a lying reader, never caught"],
 ];
 
 /**

@@ -49,17 +49,19 @@ function startAll(panels, page) {
 }
 
 async function start() {
-  const able = runsSixtyFourBits();
-  const module = able ? await WebAssembly.compile(bytesOf("module")) : null;
-  const program = new Program(module, 3);
-  const fleet = new Program(module, Math.max(1, navigator.hardwareConcurrency || 4));
+  // The module is compiled beside the page's own thread, which fills the panels meanwhile.
+  const compiling = runsSixtyFourBits() ? WebAssembly.compile(bytesOf("module")) : null;
+  const program = new Program(3);
+  const fleet = new Program(Math.max(1, navigator.hardwareConcurrency || 4));
+  if (compiling) program.warm(2);
   /** @type {Page} */
   const page = { store: new Store(), program, fleet, show: startTabs(byId("tabs"), byId("views")) };
-  if (able) program.warm(2);
   startAll(READERS, page);
-  if (able) {
+  if (compiling) {
     startAll(CALLERS, page);
     keepFlying(page);
+    const module = await compiling;
+    for (const each of [program, fleet]) each.open(module);
   } else {
     byId("status").textContent = UNABLE;
     byId("status").classList.add("unable");

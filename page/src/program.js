@@ -49,12 +49,12 @@ const policy = /** @type {any} */ (globalThis).trustedTypes?.createPolicy("worke
 
 /** A worker, and the call that it is at. */
 class Seat {
-  /** @param {WebAssembly.Module | null} module */
+  /** @param {WebAssembly.Module | null} module null where it comes later */
   constructor(module) {
     const address = URL.createObjectURL(new Blob([valueOf("worker")], { type: "text/javascript" }));
     this.worker = new Worker(policy.createScriptURL(address));
     URL.revokeObjectURL(address);
-    this.worker.postMessage(module);
+    if (module) this.worker.postMessage(module);
     /** @type {Call | null} */
     this.call = null;
     this.begun = 0;
@@ -63,12 +63,10 @@ class Seat {
 
 /** The program, in so many workers. Calls that find none free wait in their order. */
 export class Program {
-  /**
-   * @param {WebAssembly.Module | null} module null where this browser can't run it, and nothing is called
-   * @param {number} count of the workers
-   */
-  constructor(module, count) {
-    this.module = module;
+  /** @param {number} count of the workers */
+  constructor(count) {
+    /** @type {WebAssembly.Module | null} */
+    this.module = null;
     this.count = count;
     /** @type {Seat[]} */
     this.seats = [];
@@ -76,6 +74,15 @@ export class Program {
     this.waiting = [];
     /** @type {Map<string, Call>} */
     this.topics = new Map();
+  }
+
+  /**
+   * Hands over the module; before that nothing is called.
+   * @param {WebAssembly.Module} module
+   */
+  open(module) {
+    this.module = module;
+    for (const { worker } of this.seats) worker.postMessage(module);
   }
 
   /**

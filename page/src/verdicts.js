@@ -64,9 +64,11 @@ function breaksForm(it) {
   const sensors = mission.sensors.length;
   const outputs = mission.tasks.reduce((sum, task) => sum + task.start.length, 0);
   return it.units.flatMap((unit) => {
-    const { state, inputs, outputs: votes } = it.frame.units[unit];
+    const { state, configuration, inputs, outputs: votes, catches } = it.frame.units[unit];
+    const strangers = [...(configuration ?? []), ...catches.keys()].filter((named) => named >= mission.units);
     const faulty = it.faulty.includes(unit);
     const words = [
+      ...strangers.map((named) => `it names unit ${named}, which isn't there`),
       ...((state === "faulty") !== faulty ? [`by the document it ${faulty ? "is faulty" : "works"} in this frame`] : []),
       ...(inputs && inputs.length !== sensors ? [`in has ${inputs.length} words, and the mission has ${sensors} sensors`] : []),
       ...(votes && votes.length !== outputs ? [`out has ${votes.length} words, and the mission has ${outputs} output words`] : []),
