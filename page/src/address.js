@@ -28,6 +28,7 @@ export async function openFirst({ store, show }) {
   window.addEventListener("hashchange", async () => {
     const text = await linked();
     if (text === null) return;
+    store.update({ frame: 0, unit: null });
     show("flight-view");
     open(text);
   });

@@ -3,7 +3,7 @@ import { campaigns, saveRows } from "./campaign-panel.js";
 import { element } from "./elements.js";
 import { copy, save } from "./files.js";
 import { linkOf } from "./links.js";
-import { row } from "./parts.js";
+import { label, row } from "./parts.js";
 import { pictureFile } from "./picture-file.js";
 
 /** @typedef {import("./main.js").Page} Page */
@@ -20,6 +20,19 @@ const OF_THE_LINK = "it holds the document itself, behind the #: whoever has thi
 function offer(name, about, take) {
   const button = element("button", { type: "button", onclick: take }, name);
   return { button, row: row(button, element("span", { class: "more" }, about)) };
+}
+
+/** A field for a link that somebody else sent, whose page lies elsewhere. */
+function receive() {
+  const field = element("input", { type: "text", id: "received", placeholder: "…#document=…" });
+  const open = (/** @type {Event} */ event) => {
+    event.preventDefault();
+    const hash = field.value.trim().replace(/^[^#]*/, "");
+    // The address tells that it is another one, but not that the same link is to be opened again.
+    if (location.hash === hash) window.dispatchEvent(new HashChangeEvent("hashchange"));
+    else location.hash = hash;
+  };
+  return element("form", { class: "row", onsubmit: open }, label("A link that you were sent ", field), element("button", { type: "submit" }, "Open it"));
 }
 
 /**
@@ -43,7 +56,7 @@ export function start(section, { store }) {
     if (!could) link.select();
     told.textContent = could ? "The link is copied." : "The browser doesn't let the page copy: the link is selected, to be copied by hand.";
   });
-  section.append(element("h2", {}, "Take away"), mission.row, report.row, picture.row, campaign.row, copied.row, link, told);
+  section.append(element("h2", {}, "Take away"), mission.row, report.row, picture.row, campaign.row, copied.row, link, told, receive());
 
   /** Writes the link of the document as it stands. */
   async function refresh() {

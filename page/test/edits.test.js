@@ -1,11 +1,16 @@
 // Edits of a document's faults: what changes, and that all else stays.
 import assert from "node:assert/strict";
-import { readFileSync, readdirSync } from "node:fs";
+import { spawnSync } from "node:child_process";
+import { existsSync, readFileSync, readdirSync } from "node:fs";
 import { test } from "node:test";
+import { fileURLToPath } from "node:url";
 import { statedFaults, withFault, withFaults, withItem, withStorm, withoutFault, withoutFaults, withoutItem } from "../src/edits.js";
+import { Schedule } from "../src/faults.js";
+import { outlineOf } from "../src/outline.js";
 import { get, readDocument } from "../src/toml.js";
 
 const MISSIONS = new URL("../../missions/", import.meta.url);
+const PROGRAM = process.env.SIFT ?? fileURLToPath(new URL("../../out/sift", import.meta.url));
 const ITEM = /** @type {const} */ ({ slot: "out", index: 0, word: 0, to: "012", value: 7 });
 const HEAD = "# A mission.\nunits = 4\nframes = 2 # two\n\n[[task]]\nname = \"count\"\nstart = [5]\nlinear = [3, 1]\n";
 const FAULT = "\n[[fault]]\nunit = 3\nfrom = 1\n\n[[fault.say]]\nslot = \"out\"\nindex = 0\nword = 0\nto = \"012\"\nvalue = 7\n";
@@ -113,6 +118,26 @@ test("of every mission faults are taken out and put in again, and nothing else c
     for (const line of lines) {
       at = whole.indexOf(line, at + 1);
       assert.ok(at >= 0, `${name}: ${line} isn't where it was`);
+    }
+  }
+});
+
+test("every slot of every unit can be said wrong by hand, and the program accepts it", { skip: existsSync(PROGRAM) ? false : `there is no program ${PROGRAM}` }, () => {
+  const drawn = spawnSync(PROGRAM, ["gen", "--number", "0"], { encoding: "utf8" }).stdout;
+  for (const text of [mission("pitch.toml"), mission("shed_display.toml"), mission("stray_writer.toml"), drawn]) {
+    const outline = outlineOf(text);
+    const schedule = new Schedule(outline, []);
+    for (const unit of schedule.units) {
+      // All items go into one document: a fault has room for 64.
+      const slots = schedule.slotsOf(unit).filter((slot) => slot.sort !== "relay-report" || slot.index !== unit);
+      const edited = slots.slice(0, 60).reduce((whole, slot, place) => {
+        const to = schedule.units.filter((each) => each !== unit && (slot.sort !== "relay-report" || each !== slot.index)).join("");
+        const keys = { slot: slot.sort, ...(slot.index === null ? {} : { index: slot.index }), ...(slot.word === null ? {} : { word: slot.word }) };
+        return withItem(whole, unit, 0, { ...keys, to, ...(place % 2 ? { frame: 1, value: place } : {}) });
+      }, text);
+      const told = spawnSync(PROGRAM, ["check"], { input: edited, encoding: "utf8" }).stdout;
+      assert.equal(told, "ok\n", edited);
+      assert.equal(withoutFaults(edited), withoutFaults(text));
     }
   }
 });
