@@ -7,6 +7,7 @@ import { save } from "./files.js";
 import { button, label, note, option } from "./parts.js";
 import { linkOf } from "./links.js";
 import { Stopped } from "./program.js";
+import { promisedLine } from "./promised.js";
 import { counted, headlinesOf, tableOf } from "./rows.js";
 import { KINDS } from "./slots.js";
 
@@ -164,6 +165,8 @@ class CampaignPanel {
     const notes = [
       ...(own ? [`The mission's own ${own === 1 ? "fault is" : `${own} faults are`} left out.`] : []),
       ...(campaign.schedule.sheds() ? [SHEDS] : []),
+      ...promisedLine(campaign.rows.flatMap((row) => row.told.map(({ promised }) => promised))),
+      ...campaign.unpromised.map((why) => `${why}: this contradicts what the contract promises.`),
       ...refused.map((row) => `Row ${row.number}: the judge doesn't take the program's report: ${row.judge}`),
       ...(campaign.isWhole ? [] : ["It isn't whole: some runs weren't flown."]),
     ];

@@ -26,6 +26,7 @@ export const CHANGES = {
   gone: ["−", "only before"],
 };
 
+const PROMISED = "promised: out in the next frame, or never caught; all else was only seen";
 const LOST = "an output was lost: a unit voted another word than the ideal machine";
 
 /** @param {Look} look */
@@ -104,10 +105,12 @@ export function tablesOf(table, before, links) {
 export function keyOf(table, compares) {
   const changes = compares ? [CHANGES.better, CHANGES.worse, CHANGES.new, CHANGES.gone] : [];
   const wrong = [...table.cells.values()].some((cell) => cell.wrong);
+  const promised = [...table.cells.values()].some((cell) => cell.promised);
   return element(
     "ul",
     { class: "key campaign-key", "aria-label": "What the marks mean" },
     ...table.looks.map((look) => element("li", {}, element("span", { class: `swatch ${classOf(look)}` }, LOOKS[look][0] ?? "1"), LOOKS[look][1])),
+    promised && element("li", {}, element("span", { class: "swatch" }, "!"), PROMISED),
     wrong && element("li", {}, element("span", { class: "swatch wrong" }, "*"), LOST),
     ...changes.map(([sign, words]) => element("li", {}, element("span", { class: "swatch" }, sign), words)),
   );

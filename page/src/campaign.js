@@ -4,6 +4,7 @@ import { Schedule, runsOf, slotName } from "./faults.js";
 import { readIdeal } from "./ideal.js";
 import { outcomeOf } from "./outcomes.js";
 import { outlineOf } from "./outline.js";
+import { contradictions, promisesOf } from "./promised.js";
 import { readReport } from "./report.js";
 import { Row, rowOf } from "./rows.js";
 
@@ -47,6 +48,8 @@ export class Campaign {
     this.runs = runsOf(schedule, { ...chosen, single: true, pairs: false });
     /** @type {(Row | undefined)[]} */
     this.found = new Array(this.runs.length).fill(undefined);
+    /** @type {string[]} what came out other than it is promised */
+    this.unpromised = [];
   }
 
   /**
@@ -101,7 +104,10 @@ export class Campaign {
     const last = flown.text.slice(flown.text.lastIndexOf("\n", flown.text.length - 2) + 1, -1);
     const faults = this.runs[number - 1];
     const outcome = outcomeOf(faults, readReport(flown.text), last, this.schedule);
-    this.found[number - 1] = new Row(rowOf(number, faults, outcome, judged.text.trim()));
+    const promises = promisesOf(this.schedule, faults);
+    const row = new Row(rowOf(number, faults, outcome, judged.text.trim(), promises));
+    this.unpromised.push(...contradictions(promises, outcome.traces).map((why) => `Row ${number}: ${why}`));
+    this.found[number - 1] = row;
   }
 
   /**

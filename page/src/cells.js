@@ -65,6 +65,7 @@ export class Cell {
     this.look = lookIn(row, place);
     this.removal = row.told[place].removal; // the most frames to removal
     this.wrong = this.badness[0] === 1; // whether an output was lost in a run in which the slot was said
+    this.promised = /^(out|never)/.test(row.told[place].promised ?? ""); // out in the next frame, or never caught, in each run
   }
 
   /**
@@ -74,19 +75,19 @@ export class Cell {
   with(other) {
     const worst = compared(other.badness, this.badness) > 0 ? other : this;
     const removals = [this.removal, other.removal].flatMap((removal) => (removal === null ? [] : [removal]));
-    const both = { removal: removals.length ? Math.max(...removals) : null, wrong: this.wrong || other.wrong };
+    const both = { removal: removals.length ? Math.max(...removals) : null, wrong: this.wrong || other.wrong, promised: this.promised && other.promised };
     return Object.assign(Object.create(Cell.prototype), worst, both);
   }
 
-  /** What stands in it: a * behind it tells that an output was lost. */
+  /** What stands in it: a ! behind it tells that it is promised, and a * that an output was lost. */
   get mark() {
-    return (LOOKS[this.look][0] ?? String(this.removal)) + (this.wrong ? "*" : "");
+    return (LOOKS[this.look][0] ?? String(this.removal)) + (this.promised ? "!" : "") + (this.wrong ? "*" : "");
   }
 
   /** What became of it, in words. */
   get words() {
     const after = this.look === "out" ? ` after ${counted(this.removal ?? 0, "frame", "frames")}` : "";
-    return `${this.look}${after}, ${counted(this.row.wrong, "wrong word", "wrong words")} in the run, row ${this.row.number}`;
+    return `${this.look}${after} (${this.promised ? "promised" : "only seen"}), ${counted(this.row.wrong, "wrong word", "wrong words")} in the run, row ${this.row.number}`;
   }
 }
 

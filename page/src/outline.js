@@ -9,6 +9,9 @@ import { get, readDocument } from "./toml.js";
  * @property {number} units
  * @property {number} frames
  * @property {number} skew
+ * @property {number} error
+ * @property {number} rate
+ * @property {number[]} starts the offset of each unit's clock in frame 0
  * @property {{name: string, words: number[]}[]} sensors with the words that they show
  * @property {{name: string, words: number}[]} tasks with how many output words each has
  * @property {Map<number, number[][]>} executors of each size for each task the positions that run it
@@ -79,6 +82,8 @@ function positionsOf(table, size, tasks) {
 export function outlineOf(text) {
   const root = readDocument(text).root;
   const clock = get(root, "clock");
+  /** @param {string} name */
+  const figure = (name) => (clock && get(clock, name)?.data) ?? 0;
   const units = get(root, "units")?.data;
   const tasks = list(root, "task");
   const names = tasks.map((task) => get(task, "name")?.data);
@@ -87,7 +92,10 @@ export function outlineOf(text) {
   return {
     units,
     frames: get(root, "frames")?.data,
-    skew: (clock && get(clock, "skew")?.data) ?? 0,
+    skew: figure("skew"),
+    error: figure("error"),
+    rate: figure("rate"),
+    starts: Array.from({ length: units }, (_, unit) => list(clock, "start")[unit]?.data ?? 0),
     sensors: list(root, "sensor").map((sensor) => ({
       name: get(sensor, "name")?.data,
       words: list(sensor, "words").map((word) => word.data & 0xffff),

@@ -1,10 +1,13 @@
 /** The rows of runs.tsv: what came of each run, as it is written, and as it is read back. */
 import { faultName } from "./faults.js";
+import { promiseWords } from "./promised.js";
 
 /** @typedef {import("./faults.js").Fault} Fault */
 /** @typedef {import("./outcomes.js").Outcome} Outcome */
+/** @typedef {import("./promised.js").Promised} Promised */
 
-export const COLUMNS = ["row", "fault", "said", "caught", "by", "out", "margin", "wrong", "first", "words", "judge", "last"];
+export const COLUMNS = ["row", "fault", "said", "caught", "by", "out", "margin", "wrong", "first", "words", "judge", "last", "promised"];
+const BEFORE = COLUMNS.slice(0, -1); // those of an earlier tool
 
 /**
  * What can become of a unit that goes wrong, and of a run, from the mildest to the worst.
@@ -27,8 +30,9 @@ const cell = (value) => (value === null ? "-" : String(value));
  * @param {Fault[]} faults
  * @param {Outcome} outcome
  * @param {string} verdict
+ * @param {Promised[]} promises
  */
-export function rowOf(number, faults, outcome, verdict) {
+export function rowOf(number, faults, outcome, verdict, promises) {
   const { traces } = outcome;
   return [
     String(number),
@@ -43,6 +47,7 @@ export function rowOf(number, faults, outcome, verdict) {
     outcome.words.join(",") || "-",
     verdict,
     outcome.last,
+    promises.map(promiseWords).join("+"),
   ].join("\t");
 }
 
@@ -53,14 +58,16 @@ export class Told {
    * @param {string} said
    * @param {string} caught
    * @param {string} out
+   * @param {string} promised
    */
-  constructor(fault, said, caught, out) {
+  constructor(fault, said, caught, out, promised) {
     const found = FAULT.exec(fault);
     if (!found) throw new NoRows(fault);
     this.unit = Number(found[1]);
     this.slot = found[2];
     this.kind = found[3];
     this.begin = Number(found[4]);
+    this.promised = promised === "-" ? null : promised;
     this.removal = out === "-" ? null : Math.max(0, Number(out) - this.begin);
     /** @type {Fate} */
     this.fate = said === "inert" ? "inert" : out !== "-" ? "out" : caught === "-" ? "never caught" : "caught by one";
@@ -74,11 +81,15 @@ export class Row {
   /** @param {string} line */
   constructor(line) {
     const cells = line.split("\t");
-    if (cells.length !== COLUMNS.length) throw new NoRows(line);
-    const [number, fault, said, caught, , out, margin, wrong, , , judge] = cells;
+    if (cells.length !== COLUMNS.length && cells.length !== BEFORE.length) throw new NoRows(line);
+    const [number, fault, said, caught, , out, margin, wrong, , , judge, , promised] = cells;
     this.line = line;
     this.number = Number(number);
-    this.told = fault.split(" + ").map((each, place) => new Told(each, said.split("+")[place], caught.split("+")[place], out.split("+")[place]));
+    const parts = [said, caught, out, promised].map((cell) => cell?.split("+") ?? []);
+    this.told = fault.split(" + ").map((each, place) => {
+      const [one, two, three, four] = parts.map((part) => part[place] ?? "-");
+      return new Told(each, one, two, three, four);
+    });
     this.lost = margin === "lost";
     this.wrong = Number(wrong);
     this.judge = judge;
@@ -104,7 +115,7 @@ export const tableOf = (rows) => [COLUMNS.join("\t"), ...rows.map((row) => row.l
  */
 export function rowsOf(text) {
   const lines = text.replaceAll("\r\n", "\n").replace(/\n$/, "").split("\n");
-  if (lines[0] !== COLUMNS.join("\t")) throw new NoRows("line 1: the names of the columns are due");
+  if (![COLUMNS, BEFORE].some((columns) => lines[0] === columns.join("\t"))) throw new NoRows("line 1: the names of the columns are due");
   return lines.slice(1).map((line, place) => {
     try {
       return new Row(line);

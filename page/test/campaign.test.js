@@ -11,6 +11,7 @@ import { Schedule, faultName, runsOf } from "../src/faults.js";
 import { readIdeal } from "../src/ideal.js";
 import { outcomeOf } from "../src/outcomes.js";
 import { outlineOf } from "../src/outline.js";
+import { contradictions, promiseWords, promisesOf } from "../src/promised.js";
 import { readReport } from "../src/report.js";
 import { COLUMNS, NoRows, Row, headlinesOf, rowOf, rowsOf, tableOf } from "../src/rows.js";
 import { KINDS } from "../src/slots.js";
@@ -70,7 +71,7 @@ test("the rows are the stored ones, to the byte", { skip: existsSync(PROGRAM) ? 
       const faults = runs[number - 1];
       const report = execFileSync(PROGRAM, ["run", "--workers", "1"], { input: documentOf(base, schedule, faults), encoding: "utf8" });
       const outcome = outcomeOf(faults, readReport(report), report.trimEnd().split("\n").at(-1), schedule);
-      assert.equal(rowOf(number, faults, outcome, "-"), line, name);
+      assert.equal(rowOf(number, faults, outcome, "-", promisesOf(schedule, faults)), line, name);
     }
   }
 });
@@ -87,6 +88,31 @@ test("words that a table's shedding holds aren't compared from then on", { skip:
   assert.equal(outcomeOf(faults, readReport(report), "", schedule).wrong, 0);
 });
 
+test("what is promised of each run is the stored one, and no stored run contradicts it", () => {
+  for (const name of Object.keys(CAMPAIGNS)) {
+    const { schedule, runs, lines } = stored(name);
+    for (const line of lines.slice(1)) {
+      const cells = line.split("\t");
+      const promises = promisesOf(schedule, runs[Number(cells[0]) - 1]);
+      assert.equal(promises.map(promiseWords).join("+"), cells[12], line);
+      const [caught, by, out] = [cells[3], cells[4], cells[5]].map((cell) => cell.split("+"));
+      const number = (text) => (text === "-" ? null : Number(text));
+      const traces = promises.map((_, place) => ({ said: true, caught: number(caught[place]), by: [...by[place]].filter((digit) => digit !== "-").map(Number), out: number(out[place]) }));
+      assert.deepEqual(contradictions(promises, traces), [], line);
+    }
+  }
+});
+
+test("a run that isn't as promised is told", () => {
+  const { schedule, runs } = stored("first_5_liar");
+  const [promised] = promisesOf(schedule, runs[0]);
+  assert.deepEqual(contradictions([promised], [{ said: true, caught: 0, by: [1, 2], out: 2 }]), [
+    "promised is that it is out by frame 1, and it is out in frame 2",
+    "promised is that 34 catch it in frame 0, and it is first caught in frame 0",
+  ]);
+  assert.deepEqual(contradictions([{ item: "own_words", frame: 0, by: [] }], [{ said: true, caught: 3, by: [1], out: null }]), ["promised is that nobody catches it, and it is caught in frame 3"]);
+});
+
 test("a table of rows is read back, and written as it was", () => {
   for (const name of Object.keys(CAMPAIGNS)) {
     const text = read(`cases/sweeps/${name}.tsv`);
@@ -100,7 +126,7 @@ test("a table of rows is read back, and written as it was", () => {
 });
 
 test("a row tells what became of each fault, and of the run", () => {
-  const row = new Row("7\tunit 0 clock wrong from 2 + unit 1 report silence from 0\tsaid+said\t2+-\t134+-\t4+-\tok\t0\t-\t-\tyes\tend frames=6 cfg=1234 margin=ok");
+  const row = new Row("7\tunit 0 clock wrong from 2 + unit 1 report silence from 0\tsaid+said\t2+-\t134+-\t4+-\tok\t0\t-\t-\tyes\tend frames=6 cfg=1234 margin=ok\tout by 3+-");
   assert.deepEqual(row.told.map(({ fate, removal, lasting }) => [fate, removal, lasting]), [["out", 2, 2], ["never caught", null, Infinity]]);
   assert.equal(row.fate, "never caught");
 });
@@ -144,7 +170,7 @@ test("of a slot with several moments the worst run stands in the cell", () => {
     `${number}\tunit 0 clock wrong from ${begin}\tsaid\t${caught}\t1\t${out}\tok\t${wrong}\t-\t-\tyes\tend frames=6 cfg=1234 margin=ok`;
   const rows = [line(1, 0, 0, 1, 0), line(2, 1, 1, 4, 2), line(3, 2, 2, 3, 0)].map((each) => new Row(each));
   const cell = new Table(rows, ["clock"]).at("clock", "wrong", 0);
-  assert.deepEqual([cell?.mark, cell?.row.number, cell?.words], ["3*", 2, "out after 3 frames, 2 wrong words in the run, row 2"]);
+  assert.deepEqual([cell?.mark, cell?.row.number, cell?.words], ["3*", 2, "out after 3 frames (only seen), 2 wrong words in the run, row 2"]);
 });
 
 test("moments are listed as in 0,10 or 0-49", () => {
