@@ -16,12 +16,12 @@ smaller the more phases there are. Units that are out after several frames go th
 import math
 from dataclasses import dataclass
 from functools import cached_property
-from typing import Mapping, Optional, Sequence
+from typing import Iterator, Mapping, Optional, Sequence
 
 import numpy as np
 
 from sift.odds.exponential import exponential, relative_error
-from sift.odds.ways import KINDS, Fate, Way, fate_of
+from sift.odds.ways import KINDS, Fate, Way, Ways, fate_of
 
 FEWEST = 4  # working units that the promise wants
 SECONDS_OF_AN_HOUR = 3600.0
@@ -61,6 +61,11 @@ class Rates:
         """How often a unit fails in an hour, in either kind."""
         return self.permanent + self.transient
 
+    @property
+    def kinds(self) -> tuple[tuple[float, Optional[int]], ...]:
+        """Of each of KINDS how often, and how many frames such a failure lasts, None for ever."""
+        return (self.permanent, None), (self.transient, self.lasts)
+
     def hours(self, frames: int) -> float:
         """The hours from a failure until so many frames behind the one that it fell in are over."""
         return (frames + self.begun) * self.frame / SECONDS_OF_AN_HOUR
@@ -79,13 +84,17 @@ class Cause:
 def causes_of(rates: Rates, size: int, ways: Sequence[Way]) -> list[Cause]:
     """What happens in a configuration of this size in which all work, each unit failing alike."""
     units = len({way.unit for way in ways})
-    lasting = zip(KINDS, (rates.permanent, rates.transient), (None, rates.lasts))
     return [
         Cause(way, kind, size * rate * way.share / units, fate_of(way, lasts))
-        for kind, rate, lasts in lasting
+        for kind, (rate, lasts) in zip(KINDS, rates.kinds)
         if rate > 0
         for way in ways
     ]
+
+
+def as_ways(ways: Sequence[Way]) -> Ways:
+    """The same ways, with what they keep where they are such already."""
+    return ways if isinstance(ways, Ways) else Ways(ways)
 
 
 class Chain:
@@ -95,9 +104,9 @@ class Chain:
         if start < FEWEST:
             raise ValueError(f"{start} units: the promise wants {FEWEST} at least")
         self.rates, self.start = rates, start
-        self.causes = {size: causes_of(rates, size, ways[size]) for size in range(FEWEST, start + 1)}
+        self.ways: dict[int, Ways] = {size: as_ways(ways[size]) for size in range(FEWEST, start + 1)}
         # How likely a second failure is before the longest recovery is over: of that size is what a spread of its time changes.
-        overlap = start * rates.failing * rates.hours(max(map(self.longest, self.causes)))
+        overlap = start * rates.failing * rates.hours(max(map(self.longest, self.ways)))
         self.phases = rates.phases or min(MOST_PHASES, max(1, math.ceil(overlap / SPREAD)))
         self.spread = overlap / self.phases
         self.speed = self.phases * SECONDS_OF_AN_HOUR / rates.frame  # phases an hour
@@ -106,10 +115,20 @@ class Chain:
         for size in range(start, FEWEST - 1, -1):
             self.add_size(size)
 
+    @cached_property
+    def causes(self) -> dict[int, list[Cause]]:
+        """Of each size what happens in a configuration in which all work."""
+        return {size: causes_of(self.rates, size, ways) for size, ways in self.ways.items()}
+
+    def fates(self, size: int) -> Iterator[tuple[Fate, float]]:
+        """What becomes of failures in a configuration in which all work, and how often in an hour."""
+        for rate, lasts in self.rates.kinds:
+            for fate, share in self.ways[size].fates(lasts).items() if rate > 0 else ():
+                yield fate, size * rate * share
+
     def longest(self, size: int) -> int:
         """The most frames that a unit takes until it is out or well."""
-        fates = [cause.fate for cause in self.causes[size]]
-        return max((fate.out_after or fate.well_after or 0 for fate in fates), default=0)
+        return max((fate.out_after or fate.well_after or 0 for fate, _ in self.fates(size)), default=0)
 
     def add_size(self, size: int) -> None:
         """The moves of a configuration of this size in which all work."""
@@ -117,8 +136,8 @@ class Chain:
         if size == FEWEST:
             self.move(well, (FEWER, size), size * self.rates.failing)
             return
-        for cause in self.causes[size]:
-            self.move(well, self.latent_after(size, cause.fate), cause.rate)
+        for fate, rate in self.fates(size):
+            self.move(well, self.latent_after(size, fate), rate)
 
     def latent_after(self, size: int, fate: Fate) -> tuple:
         """The state behind a failure, with its own moves."""

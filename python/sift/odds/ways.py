@@ -2,6 +2,7 @@
 import math
 from dataclasses import dataclass, replace
 from fnmatch import fnmatchcase
+from functools import cached_property
 from typing import Iterable, Optional, Sequence
 
 KINDS = ("permanent", "transient")
@@ -53,12 +54,31 @@ def fate_of(way: Way, lasts: Optional[int]) -> Fate:
     return Fate(well_after=lasts)
 
 
+class Ways(tuple):
+    """Ways of failing, of all units."""
+
+    @cached_property
+    def memory(self) -> dict[Optional[int], dict[Fate, float]]:
+        return {}
+
+    def fates(self, lasts: Optional[int]) -> dict[Fate, float]:
+        """Of the failures of any unit, each as likely to fail, that last so many frames: the share of each fate."""
+        if lasts not in self.memory:
+            shares: dict[Fate, float] = {}
+            for way in self:
+                fate = fate_of(way, lasts)
+                shares[fate] = shares.get(fate, 0.0) + way.share
+            units = len({way.unit for way in self})
+            self.memory[lasts] = {fate: share / units for fate, share in shares.items()}
+        return self.memory[lasts]
+
+
 def weight_of(name: str, weights: Sequence[tuple[str, float]]) -> float:
     """How much a way counts: the product of the weights whose pattern its name fits."""
     return math.prod(weight for pattern, weight in weights if fnmatchcase(name, pattern))
 
 
-def ways_of(rows: Iterable, units: int, weights: Sequence[tuple[str, float]] = ()) -> list[Way]:
+def ways_of(rows: Iterable, units: int, weights: Sequence[tuple[str, float]] = ()) -> Ways:
     """The ways that a campaign's single faults show, where each unit fails alike.
 
     Within a unit each slot counts alike, within a slot each way of lying, and within that each moment at which it was tried;
@@ -75,7 +95,7 @@ def ways_of(rows: Iterable, units: int, weights: Sequence[tuple[str, float]] = (
     lacking = [str(unit) for unit in range(units) if unit not in tried]
     if lacking:
         raise NoWays(f"no single fault of unit {', '.join(lacking)} was flown that says anything")
-    return [way for unit in range(units) for way in ways_of_unit(unit, tried[unit], weights)]
+    return Ways(way for unit in range(units) for way in ways_of_unit(unit, tried[unit], weights))
 
 
 def ways_of_unit(unit: int, slots: dict[str, dict[str, list]], weights: Sequence[tuple[str, float]]) -> list[Way]:
