@@ -74,6 +74,7 @@ class Flight:
         self.frames = frames
         self.last = last  # the configuration after the last frame
         self.units = len(frames[0].states)
+        self.memory: Dict[Any, Any] = {}  # what was found in it before
 
     def version(self) -> Optional[int]:
         """The version of the report, or None where nobody was caught, so that it is one of both."""
