@@ -3,9 +3,10 @@
 from __future__ import annotations
 
 from importlib import import_module
-from typing import TYPE_CHECKING, Any, List
-
+TYPE_CHECKING = False  # as typing has it, which takes as long to load as a flight
 if TYPE_CHECKING:
+    from typing import Any, List
+
     from sift.campaign import Campaign as Campaign, NotFlown as NotFlown
     from sift.callers import Library as Library, NotAnswered as NotAnswered, Program as Program, use as use
     from sift.commands import buses as buses, byz as byz, check as check, clocks as clocks, gen as gen, ideal as ideal

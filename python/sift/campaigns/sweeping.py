@@ -3,13 +3,10 @@ import contextlib
 import json
 import os
 import shutil
-import subprocess
 import sys
-import tempfile
 import time
 
 from sift import where
-from sift.campaigns.engine import Engine
 from sift.campaigns.faults import Schedule, outline_of
 from sift.campaigns.findings import plain
 from sift.campaigns.flights import flyer_of
@@ -62,8 +59,11 @@ class Sources:
     def __init__(self, program):
         tool = os.path.join(where.TOP, "tools", "sources")
         asked = where.IN_PLACE and program == where.BUILT and os.path.exists(tool) and shutil.which("rt")
-        self.program = program
-        self.asked = subprocess.Popen([tool], stdout=subprocess.PIPE, stdin=subprocess.DEVNULL, text=True) if asked else None
+        self.program, self.asked = program, None
+        if asked:
+            import subprocess  # which an installation does without
+
+            self.asked = subprocess.Popen([tool], stdout=subprocess.PIPE, stdin=subprocess.DEVNULL, text=True)
 
     def tell(self):
         """Says so where it isn't."""
@@ -221,6 +221,8 @@ def fly(records, options, engine):
         records.mend_log()
     compile_kit(records.campaign.kit)
     if not engine:
+        from sift.campaigns.engine import Engine
+
         engine = Engine(records.campaign.kit, options.jobs, options.sshlogin)
     return f"parallel ended with status {engine.fly(records.campaign.batches())}"
 
@@ -288,6 +290,8 @@ def end(records, why, begun, options):
     flown = records.flown()
     if len(flown) < len(records.campaign.batches()):
         runs = f"{sum(place.rows for place in flown.values()):,} of {counted(len(records.campaign.numbers()), 'run', 'runs')}"
+        import tempfile
+
         full = next(filter(is_full, (records.folder, tempfile.gettempdir())), None)
         raise Stopped(f"{runs} were flown, and {f'the disk of {full} is full' if full else why}; --resume goes on")
     summary = Summary([str(requirement) for requirement in records.campaign.required])

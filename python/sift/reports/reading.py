@@ -4,7 +4,10 @@ from __future__ import annotations
 import itertools
 import re
 from functools import lru_cache
-from typing import Any, Dict, FrozenSet, Iterator, List, Mapping, Optional, Sequence, Set, Tuple
+
+TYPE_CHECKING = False  # as typing has it, which takes as long to load as a flight
+if TYPE_CHECKING:
+    from typing import Any, Dict, FrozenSet, Iterator, List, Mapping, Optional, Sequence, Set, Tuple
 
 NUMBER = "(0|[1-9][0-9]*)"
 WORDS_LISTED = "(-|[0-9a-f]{4}(?:,[0-9a-f]{4})*)"
