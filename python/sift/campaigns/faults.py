@@ -2,6 +2,7 @@
 import re
 from bisect import bisect_right
 from collections import namedtuple
+from functools import lru_cache
 from itertools import accumulate, combinations, repeat
 
 from sift.campaigns.ways import MOST_ITEMS, Said, is_made, ways_of
@@ -50,6 +51,7 @@ class Told(namedtuple("Told", "unit slot way begin drawn")):
     """
 
 
+@lru_cache(maxsize=4096)  # a fault comes in many pairs
 def told_of(text):
     """A fault that a row tells, or None."""
     found = FAULT.fullmatch(text)

@@ -37,7 +37,7 @@ def configurations_told(flight):
 def units_told(flight, begin):
     """The configurations that are told from a frame on, each once."""
     told = found_in(flight, (configurations_told,))
-    return frozenset(map(frozenset, told[begin : len(flight.frames)]))
+    return frozenset(map(frozenset, set(told[begin : len(flight.frames)])))
 
 
 def shown_of(flight, unit, begin):

@@ -19,7 +19,7 @@ def votes_of(out):
     return frozenset((words_of(out),))
 
 
-NOBODY = frozenset()
+NOBODY: "frozenset[int]" = frozenset()
 
 
 class QuickFlight(Flight):
@@ -86,7 +86,7 @@ def quick_part(text, number):
     """The frames of a part of a report, from the frame with this number on."""
     frames, place = [], 0
     while True:
-        margin = text.find(" margin=", place)
+        margin = text.find("m", place)  # of the margin: no other word has that letter, and one letter is found soonest
         if margin < 0 or text.startswith("end ", place):
             return tuple(frames)
         end = text.index("\n", margin) + 1

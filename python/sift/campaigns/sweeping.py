@@ -14,7 +14,7 @@ from sift.campaigns.flyer import DIVIDER, NoFlight
 from sift.campaigns.flying import flyer_for, library_of
 from sift.campaigns.kits import KEPT, can_fly, kit_of, kits_of, new_kit
 from sift.campaigns.promised import contradictions, promises_of
-from sift.campaigns.records import Records, written
+from sift.campaigns.records import Reading, Records, written
 from sift.campaigns.rows import counted
 from sift.campaigns.summary import Summary
 from sift.documents import places
@@ -205,14 +205,20 @@ def told(campaign):
 # Runs are flown in this machine's processes by the library, else as jobs of GNU parallel, or of Slurm.
 
 
-def fly(records, options, engine):
-    """Flies all batches that aren't there yet, and tells why some may be missing."""
+def fly(records, options, engine, reading):
+    """Flies all batches that aren't there yet, and tells why some may be missing. Rows are read meanwhile where processes of this
+    tool fly."""
     bar = Bar() if sys.stderr.isatty() else ignored
     if options.slurm:
         compile_kit(records.campaign.kit)
         return fly_by_slurm(records, options, bar)
     if records.campaign.has_library() and not engine and flies_here(options):
-        return fly_here(records, int(options.jobs or os.cpu_count() or 1), bar)
+
+        def progress(done, of):
+            bar(done, of)
+            reading.go_on()
+
+        return fly_here(records, int(options.jobs or os.cpu_count() or 1), progress)
     if not engine:
         if not shutil.which("parallel"):
             raise Stopped(INSTALL)
@@ -285,7 +291,7 @@ class Bar:
 # A campaign ends.
 
 
-def end(records, why, begun, options):
+def end(records, why, begun, options, tally):
     """Writes the table of what was flown, and tells the tool's status."""
     flown = records.flown()
     if len(flown) < len(records.campaign.batches()):
@@ -294,9 +300,10 @@ def end(records, why, begun, options):
 
         full = next(filter(is_full, (records.folder, tempfile.gettempdir())), None)
         raise Stopped(f"{runs} were flown, and {f'the disk of {full} is full' if full else why}; --resume goes on")
-    summary = Summary([str(requirement) for requirement in records.campaign.required])
-    failing = Failing(records.campaign)
-    records.table(flown, summary.add, failing.tell)
+    tally.reading.rows_of(flown)
+    records.table(flown)
+    summary, failing = tally.summary, tally.failing
+    failing.tell()
     print("\n".join(summary.lines()))
     if records.campaign.is_random():
         write_smallest(records, summary.worst())
@@ -309,15 +316,38 @@ def end(records, why, begun, options):
     return 1 if summary.failures else 0
 
 
+class Tally:
+    """What the rows of a campaign come to, each read once."""
+
+    def __init__(self, records):
+        self.summary = Summary([str(requirement) for requirement in records.campaign.required])
+        self.failing = Failing(records.campaign)
+        self.reading = Reading(records, self.add)
+
+    def add(self, row):
+        self.summary.add(row)
+        self.failing.add(row)
+
+
 class Failing:
     """Tells of rows that can't be: of one program, the tool's word and the program's, or the contract's and the run's."""
 
     def __init__(self, campaign):
         self.campaign = campaign
+        self.rows = []
         self.unpromised = 0  # outcomes that aren't as promised
 
-    def tell(self, row):
-        """Says so where the judge didn't take the report of a row, or the run isn't as promised."""
+    def add(self, row):
+        """Keeps a row where the judge didn't take its report, or the run isn't as promised."""
+        if row.is_misjudged() or row.contradicted:
+            self.rows.append(row)
+
+    def tell(self):
+        """Says so, in the order of the rows."""
+        for row in sorted(self.rows, key=lambda row: row.number):
+            self.tell_of(row)
+
+    def tell_of(self, row):
         if row.is_misjudged():
             print(f"row {row.number}: the program's judge doesn't take the program's report: {row.judge}")
         if row.contradicted:
@@ -442,9 +472,10 @@ def conduct(options, kit, engine, undo):
     say(told(records.campaign))
     if records.campaign.schedule.sheds():
         say("words of a task that a table sheds, and of those that read it, aren't compared from the first such frame on")
-    why = fly(records, options, engine)
+    tally = Tally(records)
+    why = fly(records, options, engine, tally.reading)
     sources.tell()
-    return end(records, why, begun, options)
+    return end(records, why, begun, options, tally)
 
 
 def sweep(options, kit, engine, undo):
