@@ -2,7 +2,6 @@
 # Names are loaded when they are asked for: a campaign's jobs import this package, and need none of them.
 from __future__ import annotations
 
-from importlib import import_module
 TYPE_CHECKING = False  # as typing has it, which takes as long to load as a flight
 if TYPE_CHECKING:
     from typing import Any, List
@@ -30,6 +29,8 @@ __all__ = sorted(PLACES)
 def __getattr__(name: str) -> Any:
     if name not in PLACES:
         raise AttributeError(f"module 'sift' has no attribute {name!r}")
+    from importlib import import_module
+
     value = getattr(import_module(f"sift.{PLACES[name]}"), name)
     globals()[name] = value
     return value

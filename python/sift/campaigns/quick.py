@@ -6,11 +6,10 @@ from functools import lru_cache
 
 from sift.reports.reading import Flight, catches_of, frame_of, units_of, words_of
 
-PART = 10  # frames of a report that are looked for at once among those that were read before
 SHORT = 32 * 1024  # letters of a report that is kept as a whole
 OUT = re.compile(r" out=(.+) bad=")
 CATCHING = re.compile(r" u=([0-7]) cfg=.* bad=([^-].*)")  # the line of a unit that caught some
-END = re.compile(r"end frames=[0-9]+ cfg=([0-7]+) margin=(?:ok|lost)\n\Z")
+END = re.compile(r"end frames=[0-9]+ cfg=([0-7]+) margin=(?:ok|lost)\n")
 
 
 @lru_cache(maxsize=16384)
@@ -32,10 +31,10 @@ class QuickFlight(Flight):
 class QuickFrame:
     """What campaigns ask of a frame, read at a glance. What they rarely ask is read when it is asked for."""
 
-    __slots__ = ("text", "number", "configuration", "votes", "margin", "told", "whole")
+    __slots__ = ("text", "configuration", "votes", "margin", "told", "whole")
 
-    def __init__(self, text, number):
-        self.text, self.number = text, number
+    def __init__(self, text):
+        self.text = text
         self.told, self.whole = [], None  # the catches, None where they weren't asked for, and the frame as it is read as a whole
         self.margin = text.endswith("=ok\n")
         configuration, out = text.find(" cfg="), text.find(" out=")
@@ -69,7 +68,8 @@ class QuickFrame:
     def read(self):
         """The frame, read as a whole."""
         if self.whole is None:
-            self.whole = frame_of(self.text, self.number, None)
+            number = int(self.text[2 : self.text.index(" ")])
+            self.whole = frame_of(self.text, number, None)
         return self.whole
 
     @property
@@ -81,17 +81,7 @@ class QuickFrame:
         return self.read().configurations
 
 
-@lru_cache(maxsize=2048)
-def quick_part(text, number):
-    """The frames of a part of a report, from the frame with this number on."""
-    frames, place = [], 0
-    while True:
-        margin = text.find("m", place)  # of the margin: no other word has that letter, and one letter is found soonest
-        if margin < 0 or text.startswith("end ", place):
-            return tuple(frames)
-        end = text.index("\n", margin) + 1
-        frames.append(QuickFrame(text[place:end], number + len(frames)))
-        place = end
+quick_frame = lru_cache(maxsize=16384)(QuickFrame)  # the same object for the same lines
 
 
 @lru_cache(maxsize=256)
@@ -101,13 +91,14 @@ def kept_flight(text):
 
 
 def flight_of(text):
-    """The flight of a report, part by part."""
-    frames, place, number = [], 0, 0
-    while place < len(text):
-        cut = text.find(f"\nf={number + PART} u=0 ", place) + 1 or len(text)
-        frames += quick_part(text[place:cut], number)
-        place, number = cut, number + PART
-    return QuickFlight(frames, units_of(END.search(text, text.rindex("end "))[1]))
+    """The flight of a report, frame by frame."""
+    frames, place = [], 0
+    while text.startswith("f", place):
+        # A frame ends with the line that tells its margin: no other word has an m, and one letter is found soonest.
+        end = text.index("\n", text.index("m", place)) + 1
+        frames.append(quick_frame(text[place:end]))
+        place = end
+    return QuickFlight(frames, units_of(END.fullmatch(text, place)[1]))
 
 
 def read_quickly(text):

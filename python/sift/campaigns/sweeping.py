@@ -117,8 +117,8 @@ def requirements_of(options, outline):
 
 
 def begin(options, kit, undo):
-    """Makes the folder of a new campaign with its kit, unless it is there, and flies the mission once without faults. It tells how
-    many faults of the mission's own are left out."""
+    """Makes the folder of a new campaign with its kit, unless it is there, and flies the mission once without faults where jobs are
+    to start the program. It tells how many faults of the mission's own are left out."""
     root, mission = mission_of(options)
     own, outline = kept_faults(options, root, mission), outline_of(mission)
     required = requirements_of(options, outline)
@@ -162,8 +162,7 @@ def fill(kit, options, base, stated):
     if status:
         raise Stopped(f"{options.program} ends with status {status} where it is to tell the ideal words")
     written(os.path.join(kit, "ideal.txt"), ideal.decode())
-    started = time.monotonic()
-    flyer.fly(base.encode())
+    here = bool(library) and flies_here(options)
     chosen = {
         "mission": os.path.basename(options.mission),
         "kinds": options.kinds or list(KINDS),
@@ -175,12 +174,19 @@ def fill(kit, options, base, stated):
         "random": random_of(options),
         "judge": flyer.has_judge(),
         "batch": options.batch,
-        "here": bool(library) and flies_here(options),
-        "flight": time.monotonic() - started,
+        "here": here,
+        "flight": None if here else time_of(flyer, base.encode()),  # by which batches are made for jobs that start the program
         "processors": os.cpu_count() or 1,
         **stated,
     }
     written(os.path.join(kit, "campaign.json"), json.dumps(chosen) + "\n")
+
+
+def time_of(flyer, document):
+    """How long a document flies."""
+    started = time.monotonic()
+    flyer.fly(document)
+    return time.monotonic() - started
 
 
 def random_of(options):
