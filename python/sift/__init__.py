@@ -2,10 +2,10 @@
 # Names are loaded when they are asked for: a campaign's jobs import this package, and need none of them.
 from __future__ import annotations
 
-from importlib import import_module
-from typing import TYPE_CHECKING, Any, List
-
+TYPE_CHECKING = False  # as typing has it, which takes as long to load as a flight
 if TYPE_CHECKING:
+    from typing import Any, List
+
     from sift.campaign import Campaign as Campaign, NotFlown as NotFlown
     from sift.callers import Library as Library, NotAnswered as NotAnswered, Program as Program, use as use
     from sift.commands import buses as buses, byz as byz, check as check, clocks as clocks, gen as gen, ideal as ideal
@@ -29,6 +29,8 @@ __all__ = sorted(PLACES)
 def __getattr__(name: str) -> Any:
     if name not in PLACES:
         raise AttributeError(f"module 'sift' has no attribute {name!r}")
+    from importlib import import_module
+
     value = getattr(import_module(f"sift.{PLACES[name]}"), name)
     globals()[name] = value
     return value

@@ -2,22 +2,32 @@
 from __future__ import annotations
 
 import os
-import subprocess
 import threading
-from typing import Any, Dict, NamedTuple, Optional, Protocol, Sequence
+from collections import namedtuple
 
 from sift import where
+
+TYPE_CHECKING = False  # as typing has it, which takes as long to load as a flight
+if TYPE_CHECKING:
+    from typing import Any, Dict, NamedTuple, Optional, Protocol, Sequence
+else:
+    Protocol = object
 
 NO_MEMORY, NO_ROOM = 10, 100
 ROOM = 65536  # bytes with which the room for a text begins
 EXPLAINED = (0, 2, 3, 4, 5, 6, 7, 11, 12, 13, 14, 15, 16, 17)  # statuses with a whole text
 
 
-class Answer(NamedTuple):
-    """What the program answers: its exit status, and the bytes that it writes."""
+if TYPE_CHECKING:
 
-    status: int
-    text: bytes
+    class Answer(NamedTuple):
+        """What the program answers: its exit status, and the bytes that it writes."""
+
+        status: int
+        text: bytes
+
+else:
+    Answer = namedtuple("Answer", "status text")
 
 
 class NotAnswered(Exception):
@@ -87,6 +97,8 @@ class Program:
 
     def answer(self, words: Sequence[str], given: bytes = b"") -> Answer:
         """What the program answers."""
+        import subprocess  # which the library does without
+
         quiet = {**os.environ, "SIFT_OFFERS": "no"}
         try:
             ended = subprocess.run([self.path, *words], input=given, stdout=subprocess.PIPE, stderr=subprocess.PIPE, env=quiet, check=False)

@@ -2,12 +2,14 @@
 import re
 from bisect import bisect_right
 from collections import namedtuple
+from functools import lru_cache
 from itertools import accumulate, combinations, repeat
 
 from sift.campaigns.ways import MOST_ITEMS, Said, is_made, ways_of
 from sift.documents.slots import FEWEST, HAPPENING, configurations_of, sayers
 
-FAULT = re.compile(
+# A fault as a row tells it. It is compiled when the first row is read, while others fly.
+FAULT = (
     r"unit (?P<unit>[0-7]) (?P<slot>.+?) (?P<way>(?P<kind>wrong|silence|two-faces|flip|stuck|offset|drift|intermittent|storm)(?: (?P<value>-?\d+))?)"
     r"(?: to (?P<to>[0-7]+))? from (?P<begin>\d+)(?: for (?P<frames>\d+))?"
 )
@@ -50,9 +52,10 @@ class Told(namedtuple("Told", "unit slot way begin drawn")):
     """
 
 
+@lru_cache(maxsize=4096)  # a fault comes in many pairs
 def told_of(text):
     """A fault that a row tells, or None."""
-    found = FAULT.fullmatch(text)
+    found = re.fullmatch(FAULT, text)
     if not found:
         return None
     drawn = found["to"] is not None or found["kind"] == "storm"

@@ -17,22 +17,26 @@ def entry(batch, rows, seconds):
 
 def places_in(path):
     """The batches that a file has to their end, by number; none where it isn't there. It may be cut off anywhere, and have some twice."""
-    found = {}
+    return {number: place for number, place, _ in entries_in(path)}
+
+
+def entries_in(path, here=0):
+    """The same one by one, from a byte on at which an entry begins: the number, the place, and the byte at which the entry ends."""
     if not os.path.exists(path):
-        return found
+        return
     with open(path, "rb") as file:
-        begin, rows, check, here = 0, 0, 0, 0
+        file.seek(here)
+        begin, rows, check = here, 0, 0
         for line in file:
             here += len(line)
             done = DONE.fullmatch(line)
             if done and int(done[3], 16) == check:
-                found[int(done[1])] = Place(path, begin, rows, float(done[2]))
+                yield int(done[1]), Place(path, begin, rows, float(done[2])), here
             if done or line.startswith(b"batch "):
                 begin, rows, check = here, 0, 0
             else:
                 check = zlib.crc32(line.rstrip(b"\n"), zlib.crc32(b"\n", check) if rows else 0)
                 rows += 1
-    return found
 
 
 def append(path, text):

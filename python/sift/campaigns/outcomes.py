@@ -14,15 +14,40 @@ Trace = namedtuple("Trace", "said caught by out")
 Outcome = namedtuple("Outcome", "traces margin wrong first words last")
 
 
-def trace_of(fault, flight, told, schedule):
-    """What a report shows of a fault, where the configurations are told as these."""
-    unit, frames = fault.unit, flight.frames
-    inside = set(told[fault.begin : len(frames)])
-    said = any(schedule.says(unit, fault.slot, frozenset(units)) for units in inside)
-    caught = next((frame for frame in range(fault.begin, len(frames)) if unit in frames[frame].caught), None)
+def trace_of(fault, flight, schedule):
+    """What a report shows of a fault."""
+    inside = found_in(flight, (units_told, fault.begin))
+    said = any(schedule.says(fault.unit, fault.slot, units) for units in inside)
+    return Trace(said, *found_in(flight, (shown_of, fault.unit, fault.begin)))
+
+
+def found_in(flight, asked):
+    """What a function finds in a flight, found once: many runs have the same report."""
+    if asked not in flight.memory:
+        find, *values = asked
+        flight.memory[asked] = find(flight, *values)
+    return flight.memory[asked]
+
+
+def configurations_told(flight):
+    """The configuration of each frame and after the last."""
+    return flight.configurations()
+
+
+def units_told(flight, begin):
+    """The configurations that are told from a frame on, each once."""
+    told = found_in(flight, (configurations_told,))
+    return frozenset(map(frozenset, set(told[begin : len(flight.frames)])))
+
+
+def shown_of(flight, unit, begin):
+    """The first frame from one on in which a unit was caught, or None, those who did so, and the first frame that it is out in, or None."""
+    frames = flight.frames
+    caught = next((frame for frame in range(begin, len(frames)) if unit in frames[frame].caught), None)
     by = tuple(frames[caught].caught_by(unit)) if caught is not None else ()
+    told = found_in(flight, (configurations_told,))
     out = next((frame for frame, units in enumerate(told) if unit not in units), None)
-    return Trace(said, caught, by, out)
+    return caught, by, out
 
 
 @lru_cache(maxsize=16384)
@@ -42,15 +67,14 @@ def wrong_words(flight, schedule):
     return {number: places for number, places in wrong.items() if places}
 
 
+def harm_of(flight, schedule):
+    """How many output words are wrong, the first frame in which some are, or None, and their names."""
+    wrong = wrong_words(flight, schedule)
+    names = tuple(schedule.names[place] for place in sorted(set().union(*wrong.values())))
+    return sum(map(len, wrong.values())), next(iter(wrong), None), names
+
+
 def outcome_of(faults, flight, last, schedule):
     """What came of the run with these faults."""
-    told = flight.configurations()
-    wrong = wrong_words(flight, schedule)
-    return Outcome(
-        tuple(trace_of(fault, flight, told, schedule) for fault in faults),
-        flight.frames[-1].margin,
-        sum(map(len, wrong.values())),
-        next(iter(wrong), None),
-        tuple(schedule.names[place] for place in sorted(set().union(*wrong.values()))),
-        last,
-    )
+    traces = tuple([trace_of(fault, flight, schedule) for fault in faults])
+    return Outcome(traces, flight.frames[-1].margin, *found_in(flight, (harm_of, schedule)), last)

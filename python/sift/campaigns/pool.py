@@ -99,10 +99,10 @@ def hand_out(batches, processes, given, done, progress):
             give()
         while told := os.read(done, SHARE.size):
             flown += SHARE.unpack(told)[1]
-            progress(flown, batches)
             if is_open and not give():
                 os.close(given)  # behind the last one: then the processes end
                 is_open = False
+            progress(flown, batches)
     except BrokenPipeError:
         pass  # no process is left
     if is_open:

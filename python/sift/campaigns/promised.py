@@ -40,7 +40,7 @@ def promise_of(schedule, fault, others=()):
     earlier = [other for other in others if other.begin <= fault.begin]
     for other in earlier:
         # With the other one in the configuration two of it are faulty.
-        if promise_of(schedule, other).item != "out" or other.begin == fault.begin:
+        if other.begin == fault.begin or promise_of(schedule, other).item != "out":
             return NOTHING
         members -= {other.unit}
     if len(members) - 1 < FEWEST:

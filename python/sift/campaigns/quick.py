@@ -6,32 +6,60 @@ from functools import lru_cache
 
 from sift.reports.reading import Flight, catches_of, frame_of, units_of, words_of
 
-PART = 10  # frames of a report that are looked for at once among those that were read before
-UNIT = re.compile(r" u=([0-7]) cfg=[0-7]+ clk=\S+ in=\S+ out=(\S+) bad=(\S+)")
-END = re.compile(r"end frames=[0-9]+ cfg=([0-7]+) margin=(?:ok|lost)\n\Z")
+SHORT = 32 * 1024  # letters of a report that is kept as a whole
+OUT = re.compile(r" out=(.+) bad=")
+CATCHING = re.compile(r" u=([0-7]) cfg=.* bad=([^-].*)")  # the line of a unit that caught some
+END = re.compile(r"end frames=[0-9]+ cfg=([0-7]+) margin=(?:ok|lost)\n")
+
+
+@lru_cache(maxsize=16384)
+def votes_of(out):
+    """The words that are voted where all units that work have the same."""
+    return frozenset((words_of(out),))
+
+
+NOBODY: "frozenset[int]" = frozenset()
+
+
+class QuickFlight(Flight):
+    """A flight of frames that are read so."""
+
+    def __init__(self, frames, last):
+        self.frames, self.last, self.memory = frames, last, {}
 
 
 class QuickFrame:
     """What campaigns ask of a frame, read at a glance. What they rarely ask is read when it is asked for."""
 
-    __slots__ = ("text", "number", "configuration", "catches", "caught", "votes", "margin", "whole")
+    __slots__ = ("text", "configuration", "votes", "margin", "told", "whole")
 
-    def __init__(self, text, number):
-        self.text, self.number, self.whole = text, number, None
+    def __init__(self, text):
+        self.text = text
+        self.told, self.whole = [], None  # the catches, None where they weren't asked for, and the frame as it is read as a whole
         self.margin = text.endswith("=ok\n")
-        begin = text.find(" cfg=")
-        if begin < 0:
-            self.configuration, self.catches, self.caught, self.votes = None, (), frozenset(), frozenset()
+        configuration, out = text.find(" cfg="), text.find(" out=")
+        if out < 0:
+            self.configuration, self.votes = None, frozenset()
             return
-        self.configuration = units_of(text[begin + 5 : text.find(" ", begin + 5)])
+        self.configuration = units_of(text[configuration + 5 : text.index(" ", configuration + 5)])
+        bad = text.index(" bad=", out)
         working = text.count(" cfg=")
-        out, bad = text.find(" out=", begin), text.find(" bad=", begin)
+        if text.count(" bad=-\n") < working:
+            self.told = None
         alike = text.count(text[out : bad + 5]) == working
-        nobody = text.count(" bad=-\n") == working
-        told = () if alike and nobody else UNIT.findall(text)
-        self.votes = frozenset((words_of(text[out + 5 : bad]),)) if alike else frozenset([words_of(out) for _, out, _ in told])
-        self.catches = () if nobody else [(int(unit), catches_of(bad)) for unit, _, bad in told if bad != "-"]
-        self.caught = frozenset().union(*(caught for _, caught in self.catches))
+        self.votes = votes_of(text[out + 5 : bad]) if alike else frozenset(map(words_of, OUT.findall(text)))
+
+    @property
+    def catches(self):
+        """Of each unit that caught some the units that it caught."""
+        if self.told is None:
+            self.told = [(int(unit), catches_of(bad)) for unit, bad in CATCHING.findall(self.text)]
+        return self.told
+
+    @property
+    def caught(self):
+        """The units that some unit caught."""
+        return NOBODY.union(*(caught for _, caught in self.catches)) if self.catches else NOBODY
 
     def caught_by(self, unit):
         """The units that caught this one in the frame."""
@@ -40,7 +68,8 @@ class QuickFrame:
     def read(self):
         """The frame, read as a whole."""
         if self.whole is None:
-            self.whole = frame_of(self.text, self.number, None)
+            number = int(self.text[2 : self.text.index(" ")])
+            self.whole = frame_of(self.text, number, None)
         return self.whole
 
     @property
@@ -52,31 +81,26 @@ class QuickFrame:
         return self.read().configurations
 
 
-class QuickFlight(Flight):
-    """A flight of such frames."""
-
-    def __init__(self, frames, last):
-        self.frames, self.last = frames, last
+quick_frame = lru_cache(maxsize=16384)(QuickFrame)  # the same object for the same lines
 
 
-@lru_cache(maxsize=2048)
-def quick_part(text, number):
-    """The frames of a part of a report, from the frame with this number on."""
+@lru_cache(maxsize=256)
+def kept_flight(text):
+    """The flight of a report, the same for the same one: so what is asked of it is found once for all runs that it came of."""
+    return flight_of(text)
+
+
+def flight_of(text):
+    """The flight of a report, frame by frame."""
     frames, place = [], 0
-    while True:
-        margin = text.find(" margin=", place)
-        if margin < 0 or text.startswith("end ", place):
-            return tuple(frames)
-        end = text.index("\n", margin) + 1
-        frames.append(QuickFrame(text[place:end], number + len(frames)))
+    while text.startswith("f", place):
+        # A frame ends with the line that tells its margin: no other word has an m, and one letter is found soonest.
+        end = text.index("\n", text.index("m", place)) + 1
+        frames.append(quick_frame(text[place:end]))
         place = end
+    return QuickFlight(frames, units_of(END.fullmatch(text, place)[1]))
 
 
 def read_quickly(text):
     """The flight that a report tells which the judge took."""
-    frames, place, number = [], 0, 0
-    while place < len(text):
-        cut = text.find(f"\nf={number + PART} u=0 ", place) + 1 or len(text)
-        frames += quick_part(text[place:cut], number)
-        place, number = cut, number + PART
-    return QuickFlight(frames, units_of(END.search(text, text.rindex("end "))[1]))
+    return kept_flight(text) if len(text) < SHORT else flight_of(text)

@@ -4,9 +4,10 @@ There may be a million rows: they are read and written one by one, and of a batc
 """
 import contextlib
 import os
+from itertools import chain
 
 from sift.campaigns.campaign import Campaign
-from sift.campaigns.journal import places_in
+from sift.campaigns.journal import entries_in, places_in
 from sift.campaigns.kits import kit_of
 from sift.campaigns.rows import COLUMNS, Row
 
@@ -68,22 +69,41 @@ class Records:
 
     def rows(self, flown):
         """The rows of batches, in their order."""
-        for number in sorted(flown):
-            place = flown[number]
-            with open(place.path, encoding="utf-8") as file:
+        path, file = None, None
+        with contextlib.ExitStack() as files:
+            for number in sorted(flown):
+                place = flown[number]
+                if place.path != path:
+                    files.close()
+                    path, file = place.path, files.enter_context(open(place.path, "rb"))
                 file.seek(place.begin)
                 for _ in range(place.rows):
-                    yield file.readline()
+                    yield file.readline().decode()
 
-    def table(self, flown, *readers):
-        """Writes runs.tsv, and lets readers have each row."""
+    def table(self, flown):
+        """Writes runs.tsv."""
+        head = "\t".join(self.columns()) + "\n"
+        written_by(self.path("runs.tsv"), chain([head], self.rows(flown)))
 
-        def lines():
-            yield "\t".join(self.columns()) + "\n"
-            for line in self.rows(flown):
-                row = Row(line.rstrip("\n"))
-                for read in readers:
-                    read(row)
-                yield line
 
-        written_by(self.path("runs.tsv"), lines())
+class Reading:
+    """Lets a function have each row of a campaign once, in no order. It can begin while others are flown: so there is little left
+    to be read when the last has flown."""
+
+    def __init__(self, records, read):
+        self.records, self.read = records, read
+        self.known, self.here = set(), 0  # the batches that were read, and up to where in this machine's file
+
+    def go_on(self):
+        """Reads what this machine has flown since."""
+        found = {}
+        for number, place, self.here in entries_in(self.records.path("jobs.txt"), self.here):
+            found[number] = place
+        self.rows_of(found)
+
+    def rows_of(self, flown):
+        """Reads the rows of batches that weren't read before."""
+        batches = self.records.campaign.batches()
+        for line in self.records.rows({number: place for number, place in flown.items() if number not in self.known and number in batches}):
+            self.read(Row(line.rstrip("\n")))
+        self.known.update(flown)

@@ -1,6 +1,7 @@
 """The rows of runs.tsv: what came of each run, as it is written, and as it is read back."""
 import math
 from collections import Counter
+from functools import lru_cache
 
 from sift.campaigns.faults import told_of
 from sift.campaigns.outcomes import Trace
@@ -75,6 +76,7 @@ class Row:
         self.removals = [None if trace.out is None else max(0, trace.out - fault.begin) for trace, fault in zip(self.traces, self.faults)]
 
     @staticmethod
+    @lru_cache(maxsize=4096)  # most runs show what others showed
     def trace_of(said, caught, by, out):
         """What a run showed of a fault."""
         caught, out = (None if frame == "-" else int(frame) for frame in (caught, out))

@@ -3,13 +3,10 @@ import contextlib
 import json
 import os
 import shutil
-import subprocess
 import sys
-import tempfile
 import time
 
 from sift import where
-from sift.campaigns.engine import Engine
 from sift.campaigns.faults import Schedule, outline_of
 from sift.campaigns.findings import plain
 from sift.campaigns.flights import flyer_of
@@ -17,7 +14,7 @@ from sift.campaigns.flyer import DIVIDER, NoFlight
 from sift.campaigns.flying import flyer_for, library_of
 from sift.campaigns.kits import KEPT, can_fly, kit_of, kits_of, new_kit
 from sift.campaigns.promised import contradictions, promises_of
-from sift.campaigns.records import Records, written
+from sift.campaigns.records import Reading, Records, written
 from sift.campaigns.rows import counted
 from sift.campaigns.summary import Summary
 from sift.documents import places
@@ -62,8 +59,11 @@ class Sources:
     def __init__(self, program):
         tool = os.path.join(where.TOP, "tools", "sources")
         asked = where.IN_PLACE and program == where.BUILT and os.path.exists(tool) and shutil.which("rt")
-        self.program = program
-        self.asked = subprocess.Popen([tool], stdout=subprocess.PIPE, stdin=subprocess.DEVNULL, text=True) if asked else None
+        self.program, self.asked = program, None
+        if asked:
+            import subprocess  # which an installation does without
+
+            self.asked = subprocess.Popen([tool], stdout=subprocess.PIPE, stdin=subprocess.DEVNULL, text=True)
 
     def tell(self):
         """Says so where it isn't."""
@@ -117,8 +117,8 @@ def requirements_of(options, outline):
 
 
 def begin(options, kit, undo):
-    """Makes the folder of a new campaign with its kit, unless it is there, and flies the mission once without faults. It tells how
-    many faults of the mission's own are left out."""
+    """Makes the folder of a new campaign with its kit, unless it is there, and flies the mission once without faults where jobs are
+    to start the program. It tells how many faults of the mission's own are left out."""
     root, mission = mission_of(options)
     own, outline = kept_faults(options, root, mission), outline_of(mission)
     required = requirements_of(options, outline)
@@ -162,8 +162,7 @@ def fill(kit, options, base, stated):
     if status:
         raise Stopped(f"{options.program} ends with status {status} where it is to tell the ideal words")
     written(os.path.join(kit, "ideal.txt"), ideal.decode())
-    started = time.monotonic()
-    flyer.fly(base.encode())
+    here = bool(library) and flies_here(options)
     chosen = {
         "mission": os.path.basename(options.mission),
         "kinds": options.kinds or list(KINDS),
@@ -175,12 +174,19 @@ def fill(kit, options, base, stated):
         "random": random_of(options),
         "judge": flyer.has_judge(),
         "batch": options.batch,
-        "here": bool(library) and flies_here(options),
-        "flight": time.monotonic() - started,
+        "here": here,
+        "flight": None if here else time_of(flyer, base.encode()),  # by which batches are made for jobs that start the program
         "processors": os.cpu_count() or 1,
         **stated,
     }
     written(os.path.join(kit, "campaign.json"), json.dumps(chosen) + "\n")
+
+
+def time_of(flyer, document):
+    """How long a document flies."""
+    started = time.monotonic()
+    flyer.fly(document)
+    return time.monotonic() - started
 
 
 def random_of(options):
@@ -205,14 +211,20 @@ def told(campaign):
 # Runs are flown in this machine's processes by the library, else as jobs of GNU parallel, or of Slurm.
 
 
-def fly(records, options, engine):
-    """Flies all batches that aren't there yet, and tells why some may be missing."""
+def fly(records, options, engine, reading):
+    """Flies all batches that aren't there yet, and tells why some may be missing. Rows are read meanwhile where processes of this
+    tool fly."""
     bar = Bar() if sys.stderr.isatty() else ignored
     if options.slurm:
         compile_kit(records.campaign.kit)
         return fly_by_slurm(records, options, bar)
     if records.campaign.has_library() and not engine and flies_here(options):
-        return fly_here(records, int(options.jobs or os.cpu_count() or 1), bar)
+
+        def progress(done, of):
+            bar(done, of)
+            reading.go_on()
+
+        return fly_here(records, int(options.jobs or os.cpu_count() or 1), progress)
     if not engine:
         if not shutil.which("parallel"):
             raise Stopped(INSTALL)
@@ -221,6 +233,8 @@ def fly(records, options, engine):
         records.mend_log()
     compile_kit(records.campaign.kit)
     if not engine:
+        from sift.campaigns.engine import Engine
+
         engine = Engine(records.campaign.kit, options.jobs, options.sshlogin)
     return f"parallel ended with status {engine.fly(records.campaign.batches())}"
 
@@ -283,16 +297,19 @@ class Bar:
 # A campaign ends.
 
 
-def end(records, why, begun, options):
+def end(records, why, begun, options, tally):
     """Writes the table of what was flown, and tells the tool's status."""
     flown = records.flown()
     if len(flown) < len(records.campaign.batches()):
         runs = f"{sum(place.rows for place in flown.values()):,} of {counted(len(records.campaign.numbers()), 'run', 'runs')}"
+        import tempfile
+
         full = next(filter(is_full, (records.folder, tempfile.gettempdir())), None)
         raise Stopped(f"{runs} were flown, and {f'the disk of {full} is full' if full else why}; --resume goes on")
-    summary = Summary([str(requirement) for requirement in records.campaign.required])
-    failing = Failing(records.campaign)
-    records.table(flown, summary.add, failing.tell)
+    tally.reading.rows_of(flown)
+    records.table(flown)
+    summary, failing = tally.summary, tally.failing
+    failing.tell()
     print("\n".join(summary.lines()))
     if records.campaign.is_random():
         write_smallest(records, summary.worst())
@@ -305,15 +322,38 @@ def end(records, why, begun, options):
     return 1 if summary.failures else 0
 
 
+class Tally:
+    """What the rows of a campaign come to, each read once."""
+
+    def __init__(self, records):
+        self.summary = Summary([str(requirement) for requirement in records.campaign.required])
+        self.failing = Failing(records.campaign)
+        self.reading = Reading(records, self.add)
+
+    def add(self, row):
+        self.summary.add(row)
+        self.failing.add(row)
+
+
 class Failing:
     """Tells of rows that can't be: of one program, the tool's word and the program's, or the contract's and the run's."""
 
     def __init__(self, campaign):
         self.campaign = campaign
+        self.rows = []
         self.unpromised = 0  # outcomes that aren't as promised
 
-    def tell(self, row):
-        """Says so where the judge didn't take the report of a row, or the run isn't as promised."""
+    def add(self, row):
+        """Keeps a row where the judge didn't take its report, or the run isn't as promised."""
+        if row.is_misjudged() or row.contradicted:
+            self.rows.append(row)
+
+    def tell(self):
+        """Says so, in the order of the rows."""
+        for row in sorted(self.rows, key=lambda row: row.number):
+            self.tell_of(row)
+
+    def tell_of(self, row):
         if row.is_misjudged():
             print(f"row {row.number}: the program's judge doesn't take the program's report: {row.judge}")
         if row.contradicted:
@@ -438,9 +478,10 @@ def conduct(options, kit, engine, undo):
     say(told(records.campaign))
     if records.campaign.schedule.sheds():
         say("words of a task that a table sheds, and of those that read it, aren't compared from the first such frame on")
-    why = fly(records, options, engine)
+    tally = Tally(records)
+    why = fly(records, options, engine, tally.reading)
     sources.tell()
-    return end(records, why, begun, options)
+    return end(records, why, begun, options, tally)
 
 
 def sweep(options, kit, engine, undo):

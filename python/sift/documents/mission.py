@@ -1,8 +1,6 @@
 """A mission as a document with places states it, and what its rules yield."""
-from dataclasses import dataclass
-from typing import Optional
-
 from sift.documents import texts
+from sift.documents.record import Record
 
 KEYS = {
     "the document": ("version", "units", "frames", "subframes", "clock", "sensor", "task", "table", "fault"),
@@ -18,15 +16,14 @@ ROOT_KEYS = KEYS["the document"]
 SECOND_KEYS = {"[[table]]": ("shed",)}  # which of them documents of version 1 don't have
 
 
-@dataclass
-class Broken:
+class Broken(Record):
     """A rule that is broken: the places in the document that show it, why, and what to do."""
 
     line: str  # what the program answers
     start: int
     end: int
     why: str
-    mend: Optional[str] = None
+    mend: object = None  # words, where there is something to do
     several: bool = False  # whether it shows only where several values are compared
 
 

@@ -122,16 +122,17 @@ COMMENT = re.compile(r"#[^\n\r\x00-\x08\x0a-\x1f\x7f]*")
 NEW_LINE = re.compile(r"\r?\n")
 INTEGER = re.compile(r"[+-]?(?:0|[1-9](?:_?[0-9])*)")
 PREFIXED = {
-    "x": (16, re.compile(r"0x[0-9A-Fa-f](?:_?[0-9A-Fa-f])*")),
-    "o": (8, re.compile(r"0o[0-7](?:_?[0-7])*")),
-    "b": (2, re.compile(r"0b[01](?:_?[01])*")),
+    "x": (16, r"0x[0-9A-Fa-f](?:_?[0-9A-Fa-f])*"),
+    "o": (8, r"0o[0-7](?:_?[0-7])*"),
+    "b": (2, r"0b[01](?:_?[01])*"),
 }
-FLOAT = re.compile(r"[+-]?(?:0|[1-9](?:_?[0-9])*)(?:\.[0-9](?:_?[0-9])*)?(?:[eE][+-]?[0-9](?:_?[0-9])*)?")
-SPECIAL_FLOAT = re.compile(r"[+-]?(?:inf|nan)")
+# What missions have none of is compiled when it is first looked for.
+SPECIAL_FLOAT = r"[+-]?(?:inf|nan)"
+FLOAT = r"[+-]?(?:0|[1-9](?:_?[0-9])*)(?:\.[0-9](?:_?[0-9])*)?(?:[eE][+-]?[0-9](?:_?[0-9])*)?"
 DATE = r"(?P<year>\d{4})-(?P<month>\d\d)-(?P<day>\d\d)"
 TIME = r"(?P<hour>\d\d):(?P<minute>\d\d)(?::(?P<second>\d\d)(?:\.\d+)?)?"
 OFFSET = r"(?:[Zz]|[+-](?P<offset_hour>\d\d):(?P<offset_minute>\d\d))"
-DATES = [re.compile(form) for form in (f"{DATE}(?:[Tt ]{TIME}{OFFSET}?)?", TIME)]
+DATES = (f"{DATE}(?:[Tt ]{TIME}{OFFSET}?)?", TIME)
 BOUNDS = {
     "month": (1, 12),
     "hour": (0, 23),
@@ -147,7 +148,7 @@ CURLY = "\u201c\u201d\u201e\u2018\u2019"
 
 def is_date(word):
     """Whether a word is a date, a time, or both."""
-    found = next(filter(None, (form.fullmatch(word) for form in DATES)), None)
+    found = next(filter(None, (re.fullmatch(form, word) for form in DATES)), None)
     if not found:
         return False
     parts = {name: int(part) for name, part in found.groupdict().items() if part}
@@ -171,14 +172,14 @@ def scalar_of(word):
         return None, (f"`{word}` is no date and no time", "a mission has none: a number, or a string in quotes")
     if len(word) > 1 and word[0] == "0" and word[1] in PREFIXED:
         base, form = PREFIXED[word[1]]
-        if form.fullmatch(word):
+        if re.fullmatch(form, word):
             return integer_of(word, int(word.replace("_", ""), base))
         return None, (f"`{word}` is no number", f"digits of base {base} behind the `{word[:2]}`")
     if INTEGER.fullmatch(word):
         return integer_of(word, int(word.replace("_", "")))
-    if SPECIAL_FLOAT.fullmatch(word):
+    if re.fullmatch(SPECIAL_FLOAT, word):
         return "float", float(word)
-    if FLOAT.fullmatch(word):
+    if re.fullmatch(FLOAT, word):
         number = float(word.replace("_", ""))
         if abs(number) != float("inf"):
             return "float", number

@@ -2,11 +2,10 @@
 
 Places are bytes of the text, from 0.
 """
-import difflib
 import re
 import sys
-from dataclasses import dataclass, field
-from typing import Optional
+
+from sift.documents.record import Record
 
 KEYWORDS = ("let", "out", "if", "else", "repeat", "mid", "sense", "now", "last")
 LONGEST_TEXT, LONGEST_NAME, LARGEST_WORD, MOST_ROUNDS, MOST_LOCALS, DEEPEST = 4096, 16, 65535, 1024, 32, 32
@@ -36,8 +35,7 @@ class RefusedText(Exception):
         self.mend = mend
 
 
-@dataclass
-class Scope:
+class Scope(Record):
     """What a text may name: its task, and the tasks and sensors of the mission."""
 
     own: int  # the number of the task whose text it is
@@ -49,8 +47,7 @@ class Scope:
         return next((number for number, (other, _) in enumerate(self.tasks) if other == name), None)
 
 
-@dataclass
-class Token:
+class Token(Record):
     kind: str  # "word", "number", "mark", or "end" of the text
     text: str
     place: int
@@ -58,35 +55,29 @@ class Token:
     value: int = 0  # of a number
 
 
-@dataclass
-class Number:
+class Number(Record):
     value: int
 
 
-@dataclass
-class Local:
+class Local(Record):
     name: str
 
 
-@dataclass
-class Sense:
+class Sense(Record):
     sensor: int
 
 
-@dataclass
-class Read:
+class Read(Record):
     now: bool  # `now`, and not `last`
     task: int
     word: int
 
 
-@dataclass
-class Minus:
+class Minus(Record):
     inner: object
 
 
-@dataclass
-class Operation:
+class Operation(Record):
     operator: str
     left: object
     right: object
@@ -94,42 +85,36 @@ class Operation:
     end: int
 
 
-@dataclass
-class Mid:
+class Mid(Record):
     parts: list
 
 
-@dataclass
-class Set:
+class Set(Record):
     """A `let` or an assignment."""
 
     name: str
     value: object
 
 
-@dataclass
-class Out:
+class Out(Record):
     word: int
     value: object
 
 
-@dataclass
-class If:
+class If(Record):
     test: object
     then: list
     other: list  # the statements behind `else`, or None
 
 
-@dataclass
-class Repeat:
+class Repeat(Record):
     rounds: int
     block: list
     place: int
     end: int
 
 
-@dataclass
-class Sized:
+class Sized(Record):
     """The code of a text: its instructions, and the steps that it may take."""
 
     length: int = 0
@@ -189,6 +174,8 @@ def parts_of(part):
 
 def nearest(name, names):
     """The name that is most like a misspelled one, or None."""
+    import difflib  # which texts that are right do without
+
     found = difflib.get_close_matches(name, names, 1, 0.7)
     return found[0] if found else None
 
@@ -199,17 +186,19 @@ def choice(names):
     return quoted[0] if len(quoted) == 1 else ", ".join(quoted[:-1]) + " and " + quoted[-1]
 
 
-@dataclass
-class Parser:
+class Parser(Record):
     """A text, the token that comes next, the locals that live, and what is open."""
 
     text: str
     scope: Scope
     at: int = 0
-    locals: list = field(default_factory=list)
     open: int = 0
-    token: Optional[Token] = None
-    before: Optional[Token] = None
+    token: object = None  # the one that comes next, and the one before it
+    before: object = None
+
+    def __init__(self, text, scope):
+        super().__init__(text, scope)
+        self.locals = []
 
     # Tokens.
 

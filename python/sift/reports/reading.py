@@ -4,23 +4,27 @@ from __future__ import annotations
 import itertools
 import re
 from functools import lru_cache
-from typing import Any, Dict, FrozenSet, Iterator, List, Mapping, Optional, Sequence, Set, Tuple
+
+TYPE_CHECKING = False  # as typing has it, which takes as long to load as a flight
+if TYPE_CHECKING:
+    from typing import Any, Dict, FrozenSet, Iterator, List, Mapping, Optional, Sequence, Set, Tuple
 
 NUMBER = "(0|[1-9][0-9]*)"
 WORDS_LISTED = "(-|[0-9a-f]{4}(?:,[0-9a-f]{4})*)"
 CAUGHT_LISTED = "(-|[0-7]+|[0-7](?:pr?c?|rc?|c)(?:,[0-7](?:pr?c?|rc?|c))*)"  # in version 1 digits, in version 2 with kinds
-UNIT = re.compile(f"f={NUMBER} u=[0-7] ")
-ACCOUNT = re.compile(f"cfg=([0-7]+) clk=(-?{NUMBER}) in={WORDS_LISTED} out={WORDS_LISTED} bad={CAUGHT_LISTED}")
+# Forms of lines. They are compiled when they are first looked for, which takes as long as a flight.
+UNIT = f"f={NUMBER} u=[0-7] "
+ACCOUNT = f"cfg=([0-7]+) clk=(-?{NUMBER}) in={WORDS_LISTED} out={WORDS_LISTED} bad={CAUGHT_LISTED}"
 # What no outcome of a run asks for: the numbers of the clocks. In place of them stands what they are blanked with.
 CLOCKS = {
-    " clk=0 ": re.compile(f" clk=-?{NUMBER} "),
-    " skew=0 slack=0 ": re.compile(f" skew={NUMBER} slack=-?{NUMBER} "),
+    " clk=0 ": f" clk=-?{NUMBER} ",
+    " skew=0 slack=0 ": f" skew={NUMBER} slack=-?{NUMBER} ",
 }
 STRETCH = 10  # frames of a report that are looked for at once among those that were read before
 KINDS = {"p": "poll", "r": "relay", "c": "clock"}
-FRAME = re.compile(f"f={NUMBER} (?:skew={NUMBER} slack=(-?{NUMBER})|skew=- slack=-) margin=(ok|lost)")
-END = re.compile(f"end frames={NUMBER} cfg=([0-7]+) margin=(ok|lost)")
-IDEAL = re.compile(f"f={NUMBER} out={WORDS_LISTED}")
+FRAME = f"f={NUMBER} (?:skew={NUMBER} slack=(-?{NUMBER})|skew=- slack=-) margin=(ok|lost)"
+END = f"end frames={NUMBER} cfg=([0-7]+) margin=(ok|lost)"
+IDEAL = f"f={NUMBER} out={WORDS_LISTED}"
 
 
 class NoReport(Exception):
@@ -74,6 +78,7 @@ class Flight:
         self.frames = frames
         self.last = last  # the configuration after the last frame
         self.units = len(frames[0].states)
+        self.memory: Dict[Any, Any] = {}  # what was found in it before
 
     def version(self) -> Optional[int]:
         """The version of the report, or None where nobody was caught, so that it is one of both."""
@@ -129,7 +134,7 @@ def account_of(text):
     """What the line of a unit tells behind the frame and the unit: its state, and its cfg, clk, in, out and bad; or None."""
     if text in ("faulty", "idle"):
         return text, None, None, None, None, {}
-    found = ACCOUNT.fullmatch(text)
+    found = re.fullmatch(ACCOUNT, text)
     if not found:
         return None
     return "works", units_of(found[1]), int(found[2]), words_of(found[4]), words_of(found[5]), catches_of(found[6])
@@ -140,7 +145,7 @@ def unit_of(line, number, unit):
     begin = f"f={number} u={unit} "
     if line.startswith(begin):
         return account_of(line[len(begin) :])
-    other = UNIT.match(line)
+    other = re.match(UNIT, line)
     if other and account_of(line[other.end() :]):
         raise NoReport(f"frame {number} and unit {unit} are due")
     return None
@@ -148,7 +153,7 @@ def unit_of(line, number, unit):
 
 def figures_of(line, number):
     """The skew and the slack, or None, and whether the margin holds, as the line of the frame as a whole tells them."""
-    found = FRAME.fullmatch(line)
+    found = re.fullmatch(FRAME, line)
     if not found or int(found[1]) != number:
         raise NoReport(f"a line of frame {number} is due")
     return int(found[2]) if found[2] else None, int(found[3]) if found[3] else None, found[5] == "ok"
@@ -182,7 +187,7 @@ def frame_of(text, number, count):
 
 def read_end(line, is_last, number, count):
     """The configuration after so many frames of so many units, where a line is the end of the report; or None."""
-    end = END.fullmatch(line)
+    end = re.fullmatch(END, line)
     if not end or not number:
         return None
     if int(end[1]) != number or not is_last:
@@ -260,7 +265,7 @@ def stretch_of(text, number, count, version):
 def blanked_stretch_of(text, *before):
     """The same with 0 for what the clocks show. Most reports of a mission differ in that alone from one that was read before."""
     for blank, clock in CLOCKS.items():
-        text = clock.sub(blank, text)
+        text = re.sub(clock, blank, text)
     return stretch_of(text, *before)
 
 
@@ -286,7 +291,7 @@ def read_ideal(text: str) -> List[Tuple[int, ...]]:
     lines = lines_of(whole_lines(text))
     frames = []
     for number, line in enumerate(lines[:-1]):
-        found = IDEAL.fullmatch(line)
+        found = re.fullmatch(IDEAL, line)
         if not found or int(found[1]) != number:
             raise NoReport(f"line {number + 1}: a line of frame {number} is due")
         frames.append(words_of(found[2]))

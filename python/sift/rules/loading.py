@@ -4,7 +4,6 @@ from sift.documents import places
 from sift.documents.mission import Mission
 from sift.documents.printing import text_of
 from sift.files import as_called
-from sift.rules.refusals import STEPS, refusals
 
 
 class Refused(Exception):
@@ -20,6 +19,8 @@ def load(raw, steps=None):
     except places.NotADocument:
         raise Refused(line or "not a document") from None
     if line is None:
+        from sift.rules.refusals import STEPS, refusals  # which the program does without
+
         line = next((broken.line for broken in refusals(root, steps or STEPS)), "")
     if line:
         raise Refused(line)

@@ -45,7 +45,6 @@ import shutil
 import sys
 
 from sift import where
-from sift.campaigns.engine import Engine
 from sift.campaigns.flying import library_of
 from sift.campaigns.kits import can_fly, kit_of, new_kit
 from sift.campaigns.ways import VALUES
@@ -206,6 +205,8 @@ def early(options, undo):
     others = options.sshlogin or options.slurm or library_of(options.program)
     if not begins or logged or others or sys.stderr.isatty() or not shutil.which("parallel"):
         return None, None
+    from sift.campaigns.engine import Engine  # subprocess, which the library does without
+
     kit = new_kit(options.out, undo)
     engine = Engine(kit, options.jobs, options.sshlogin)
     undo.callback(engine.end)
