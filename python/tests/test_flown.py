@@ -243,3 +243,14 @@ def test_the_page_shows_what_is_told(tmp_path):
     shown = [line for block in page.split("```console\n")[1:] for line in block.split("\n```\n")[0].splitlines() if line]
     assert len(shown) > 20
     assert [line for line in shown if not any(line in each for each in lines)] == []
+
+
+@pytest.mark.skipif(not shutil.which("parallel"), reason="there is no GNU parallel")
+def test_overwrite_begins_where_there_is_no_campaign(tmp_path):
+    """By a program that has no library beside it, so that GNU parallel flies."""
+    program = tmp_path / "sift"
+    shutil.copy(where.BUILT, program)
+    words = [MISSIONS / "first_5_liar.toml", "--program", program, "--overwrite", "--out", tmp_path / "campaign"]
+    status, _, said = ended(sweep(*words))
+    assert status == 1, said
+    assert (tmp_path / "campaign" / "runs.tsv").read_text().splitlines() == stored("first_5_liar")

@@ -127,7 +127,8 @@ def begin(options, kit, undo):
     if kit_of(options.out) and not options.overwrite:
         ways = "--resume goes on with it, --overwrite begins anew in its place, and --out names another folder"
         raise Stopped(f"{options.out} has a campaign: {ways}", 2)
-    older = [*kits_of(options.out), *(os.path.join(options.out, name) for name in KEPT)] if options.overwrite else []
+    # Where the engine has begun already, what lies in the folder is its own: there was no campaign.
+    older = [*kits_of(options.out), *(os.path.join(options.out, name) for name in KEPT)] if options.overwrite and not kit else []
     fill(kit or new_kit(options.out, undo), options, without_faults(root), {"outline": outline, "keep": own, "required": required})
     undo.pop_all()
     for path in older:
