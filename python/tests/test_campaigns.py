@@ -13,7 +13,7 @@ from sift.campaigns import journal
 from sift.campaigns.building import json_of, junit_of
 from sift.campaigns.comparison import compared
 from sift.campaigns.faults import Fault, Faults, Schedule, Slot, outline_of, told_of
-from sift.campaigns.findings import Finding, Requirement, finding_of, plain, requirement_of
+from sift.campaigns.findings import Finding, finding_of, plain, requirement_of
 from sift.campaigns.quick import read_quickly
 from sift.campaigns.requirements import NoRequirements, read_requirements
 from sift.campaigns.rows import NoRows, Row, read_rows, rows_of

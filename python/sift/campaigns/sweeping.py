@@ -7,7 +7,7 @@ import sys
 import time
 
 from sift import where
-from sift.campaigns.faults import Schedule, outline_of
+from sift.campaigns.faults import outline_of
 from sift.campaigns.findings import plain
 from sift.campaigns.flights import flyer_of
 from sift.campaigns.flyer import DIVIDER, NoFlight

@@ -20,7 +20,6 @@ are named; 2 for other words, or a mission, wishes or a CSV that is refused; 3 w
 9 where something can't be written; 125 where the solver or the program isn't there, or `check` doesn't accept the tables.
 """
 import argparse
-import os
 import sys
 
 from sift import where
