@@ -8,9 +8,14 @@ TOP = Path(__file__).resolve().parents[2]
 os.chdir(TOP)  # tests name missions and cases as one does there
 sys.path[:0] = [str(TOP / "python"), str(TOP / "python" / "tests")]
 
+from hypothesis import HealthCheck, settings
 import pytest
 
 from sift import callers, where
+
+# A busy machine is no fault of what is tested, and each run of the gate draws the same.
+settings.register_profile("gate", deadline=None, derandomize=True, suppress_health_check=[HealthCheck.too_slow])
+settings.load_profile("gate")
 
 
 @pytest.fixture(autouse=True)
