@@ -1,5 +1,6 @@
 pub mod Beside
 pub mod Cells
+pub mod Counts
 pub mod Events
 pub mod Heard
 pub mod Keep

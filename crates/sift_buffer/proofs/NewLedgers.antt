@@ -7,7 +7,7 @@ use Rattle.sift_buffer.specs.Ledgers.{Ledger, saying_of, hearing_of, conduct_in}
 use Rattle.sift_buffer.proofs.lemmas.Tables.{entry_none}
 
 -- a list of zeros has nothing else
-zeros : (n i : ℕ) → ◌≡◌ {A = ℕ} (slice_index_or (replicate n 0) i 0) 0
+pub zeros : (n i : ℕ) → ◌≡◌ {A = ℕ} (slice_index_or (replicate n 0) i 0) 0
 zeros zero i = refl
 zeros (suc n) zero = refl
 zeros (suc n) (suc i) = zeros n i

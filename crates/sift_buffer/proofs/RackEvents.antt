@@ -8,7 +8,8 @@ use Rattle.sift_buffer.specs.Core.{Event, doer, after, Allowed}
 use Rattle.sift_buffer.specs.Ledgers.{Ledger, conduct_in, conduct_with}
 use Rattle.sift_buffer.specs.Following.{reaches_one}
 use Rattle.sift_buffer.specs.Crews.{no_ledger, ledger_at, with_strays}
-use Rattle.sift_buffer.specs.Racks.{Follows, ranges_for, core_of, conduct_at}
+use Rattle.sift_buffer.specs.Racks.{Follows, ranges_for, core_of, conduct_at, looks_at, last_at}
+use Rattle.sift_buffer.specs.Tables.{ranges_of}
 use Rattle.sift_buffer.specs.declared.rack.Rack.{Rack}
 
 -- an entry that was lent, by any default
@@ -37,6 +38,8 @@ pub record MakesEvent (a b : Rack) (e : Event) (F : Conduct → Conduct) (at : �
   pub noted : conduct_in l ≡ F (conduct_in o)
   pub beside : (c : Conduct) (strays : List Stray) → record (F c) { strays = strays } ≡ F (record c { strays = strays })
   pub acts : b.acts.items ≡ slice_set a.acts.items at l
+  pub looks : (p : ℕ) → p ≢ a.unit → looks_at b p ≡ looks_at a p
+  pub last : (p : ℕ) → p ≢ a.unit → last_at b p ≡ last_at a p
   pub doer_is : doer e ≡ a.unit
   pub may : (w : ℕ → List Stray) → Allowed (ranges_for a) (core_of a w) e
   pub of : (w : ℕ → List Stray) → (after (ranges_for a) (core_of a w) e).of ≡ put (core_of a w).of a.unit (F ((core_of a w).of a.unit))
@@ -50,6 +53,13 @@ follows_by a b e F at o l made = record {
   unit = made.unit;
   reaches = λ w. reaches_one (ranges_for a) a.unit (core_of a w) (core_of b (with_strays w a.unit [])) e made.doer_is (made.may w)
       ((λ i. record { words = made.words w i; of = made.of w i }) ∙ (λ i. record { words = b.words.items; of = now w i }));
+  others = λ p ne i. record {
+    ranges = ranges_of (made.layout i) (made.frames i);
+    unit = p;
+    conduct = conduct_in (others p ne i);
+    looks = made.looks p ne i;
+    last = made.last p ne i;
+  };
 }
   where
     low : a.unit < length a.acts.items

@@ -62,6 +62,7 @@ itself x = record {
   unit = refl;
   reaches = λ w. subst (λ (v : ℕ → List Stray). Reaches (ranges_for x) x.unit (core_of x w) (core_of x v)) (sym (none_more w x.unit))
       (reaches_itself (ranges_for x) x.unit (core_of x w));
+  others = λ p ne. refl;
 }
 
 -- the ranges of racks of one layout and number of frames
@@ -79,4 +80,5 @@ further x y z earlier later a b = record {
       (reaches_on r u (core_of x w) (core_of y v) (core_of z (with_strays v u later)) (a.reaches w)
       (subst (λ (p : ℕ). Reaches r p (core_of y v) (core_of z (with_strays v p later))) a.unit
       (subst (λ (s : Ranges). Reaches s y.unit (core_of y v) (core_of z (with_strays v y.unit later))) (same_ranges x y a.layout a.frames) (b.reaches v))));
+  others = λ p ne. b.others p (λ e. ne (e ∙ a.unit)) ∙ a.others p ne;
 }

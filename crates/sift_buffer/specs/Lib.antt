@@ -11,6 +11,7 @@ pub mod Journals
 pub mod Ledgers
 pub mod Sizes
 pub mod Views
+pub mod Counts
 pub mod Reaches
 pub mod Crews
 pub mod Racks

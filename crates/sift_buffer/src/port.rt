@@ -1,8 +1,9 @@
 //! Ports: how one unit reaches the cells and progress numbers that the units share.
-ghost use Rattle.std.specs.Prelude.{◌≡◌, ◌<◌, ◌≤◌, ◌++◌, ℕ, List, [], ◌∷◌, IfSome};
+ghost use Rattle.std.specs.Prelude.{◌≡◌, ◌<◌, ◌≤◌, ◌+◌, ◌++◌, ℕ, List, [], ◌∷◌, IfSome};
 ghost use Rattle.sift_base.specs.Units.{unit_limit};
 ghost use Rattle.sift_buffer.specs.Conduct.{Stray, stray_to};
 ghost use Rattle.sift_buffer.specs.Conditions.{MayEnter, MayTurn, PassesGate};
+ghost use Rattle.sift_buffer.specs.Counts.{looks_of, steps_of_try, steps_of_turn};
 ghost use Rattle.sift_buffer.specs.Views.{View, IsOther, PortMaySay, PortMayHear, PortMayStray, IsButForStrays, Decides, Tries, TriesTurn, Finds, view_with_look, view_with_said, view_with_heard, view_with_entered, view_with_turned};
 
 use sift_base::{UnitId, Word};
@@ -19,6 +20,10 @@ pub trait Look {
 
     /// That a unit's progress number is now this one, where the port can tell.
     ghost stands: { Self → ℕ → ℕ → Type 0 };
+
+    /// That so many steps lead from the one to the other, where the port counts them. Each is one load or one store of
+    /// one shared word.
+    ghost makes: { Self → ℕ → Self → Type 0 };
 
     /// How many units there are.
     fn units(&self) -> u8
@@ -38,6 +43,7 @@ pub trait Look {
         requires { IsOther (view self.old) other }
         ensures looked { view self.new ≡ view_with_look (view self.old) other result }
         ensures stands { stands self.new other result }
+        ensures steps { makes self.old 1 self.new }
         ensures follows { follows self.old [] self.new };
 
     /// A port follows itself.
@@ -45,6 +51,12 @@ pub trait Look {
 
     /// What follows a port that follows another follows that one too.
     ghost follows_on: { (x y z : Self) (earlier later : List Stray) → follows x earlier y → follows y later z → follows x (later ++ earlier) z };
+
+    /// No step leads from a port to itself.
+    ghost makes_none: { (x : Self) → makes x 0 x };
+
+    /// Some steps, and then others.
+    ghost makes_more: { (x y z : Self) (m n : ℕ) → makes x m y → makes y n z → makes x (m + n) z };
 }
 
 /// What a try to enter the next subframe, or to turn, came to.
@@ -63,12 +75,14 @@ pub trait Port: Look {
     fn say(&mut self, to: UnitId, slot: usize, f: u32, stamp: u32, word: Option<Word>)
         requires { PortMaySay (Self.view self.old) to slot f stamp }
         ensures said { Self.view self.new ≡ view_with_said (Self.view self.old) f slot to stamp word }
+        ensures steps { Self.makes self.old 1 self.new }
         ensures follows { Self.follows self.old [] self.new };
 
     /// Hears a word, or absence, in a frame and slot from another unit, by one load.
     fn hear(&mut self, from: UnitId, slot: usize, f: u32, stamp: u32) -> Option<Word>
         requires { PortMayHear (Self.view self.old) from slot f stamp }
         ensures heard { Self.view self.new ≡ view_with_heard (Self.view self.old) f slot from stamp result }
+        ensures steps { Self.makes self.old 1 self.new }
         ensures follows { Self.follows self.old [] self.new };
 
     /// Stores the progress number, raised by one, by one store. Only a unit that passes the gate does.
@@ -76,6 +90,7 @@ pub trait Port: Look {
         requires may { MayEnter (Self.view self.old).conduct }
         requires gate { PassesGate (Self.view self.old).ranges (Self.view self.old).conduct (Self.view self.old).unit }
         ensures entered { Self.view self.new ≡ view_with_entered (Self.view self.old) }
+        ensures steps { Self.makes self.old 1 self.new }
         ensures follows { Self.follows self.old [] self.new };
 
     /// Stores the progress number of a unit that has turned, by one store. Beyond progress 0 only a unit that passes the
@@ -84,12 +99,14 @@ pub trait Port: Look {
         requires may { MayTurn (Self.view self.old).conduct }
         requires gate { 0 < (Self.view self.old).conduct.progress → PassesGate (Self.view self.old).ranges (Self.view self.old).conduct (Self.view self.old).unit }
         ensures turned { Self.view self.new ≡ view_with_turned (Self.view self.old) }
+        ensures steps { Self.makes self.old 1 self.new }
         ensures follows { Self.follows self.old [] self.new };
 
     /// Stores any number in the own cell for another unit in a slot, by one store. Only a unit that has turned does.
     fn stray(&mut self, to: UnitId, slot: usize, cell: u64)
         requires { PortMayStray (Self.view self.old) to slot }
         ensures rest { IsButForStrays (Self.view self.old) (Self.view self.new) }
+        ensures steps { Self.makes self.old 1 self.new }
         ensures follows { Self.follows self.old (stray_to to slot cell ∷ []) self.new };
 
     /// Looks at the other units in ascending number, and enters the next subframe where none is
@@ -98,6 +115,7 @@ pub trait Port: Look {
         requires { MayEnter (Self.view self.old).conduct }
         ensures tried { Tries (Self.view self.old) result (Self.view self.new) }
         ensures stands { Finds result (Self.stands self.new) }
+        ensures steps { Self.makes self.old (steps_of_try (Self.view self.old) result) self.new }
         ensures follows { Self.follows self.old [] self.new }
     {
         if let Some((unit, seen)) = find_behind(self) {
@@ -113,6 +131,7 @@ pub trait Port: Look {
         requires { MayTurn (Self.view self.old).conduct }
         ensures tried { TriesTurn (Self.view self.old) result (Self.view self.new) }
         ensures stands { Finds result (Self.stands self.new) }
+        ensures steps { Self.makes self.old (steps_of_turn (Self.view self.old) result) self.new }
         ensures follows { Self.follows self.old [] self.new }
     {
         if self.progress() == 0 {
@@ -132,6 +151,7 @@ pub trait Port: Look {
 pub fn find_behind<L: Look>(port: &mut L) -> Option<(UnitId, u64)>
     ensures round { Decides (L.view port.old) result (L.view port.new) }
     ensures stands { IfSome result (λ x. L.stands port.new x.0 x.1) }
+    ensures steps { L.makes port.old (looks_of (L.view port.old) result) port.new }
     ensures follows { L.follows port.old [] port.new }
 {
     let own = port.unit();

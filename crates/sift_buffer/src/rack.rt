@@ -8,16 +8,16 @@ use crate::acts::Acts;
 use crate::grid::Grid;
 use sift_base::UnitId;
 
-/// The shared words and the acts of all units. It is the port of one unit at a time.
+/// The shared words, and of each unit its acts, its count of looks and its last look. It is the port of one unit at a time.
 #[derive(Drop)]
 pub struct Rack {
     pub(crate) grid: Grid,
     pub(crate) unit: UnitId,
     pub(crate) words: Vec<u64>,
     pub(crate) acts: Vec<Acts>,
-    pub(crate) looks: u64,
-    pub(crate) last_unit: u8,
-    pub(crate) last_number: u64,
+    pub(crate) looks: [u64; 8],
+    pub(crate) last_units: [u8; 8],
+    pub(crate) last_numbers: [u64; 8],
     ghost here: { unit < grid.layout.units },
     ghost wide: { length words.items ≡ shared_words (ranges_of grid.layout grid.frames) },
     ghost crew: { length acts.items ≡ grid.layout.units },

@@ -1,5 +1,5 @@
 //! The plain memory of all units as the port of each.
-ghost use Rattle.std.specs.Prelude.{◌≡◌, ◌<◌, ℕ, List, IfOk};
+ghost use Rattle.std.specs.Prelude.{◌≡◌, ◌<◌, ℕ, List, IfOk, ⊤};
 ghost use Rattle.sift_base.specs.Layout.{IsLayout};
 ghost use Rattle.sift_buffer.specs.Conduct.{Stray, stray_to};
 ghost use Rattle.sift_buffer.specs.Lawful.{Lawful};
@@ -30,9 +30,9 @@ impl Rack {
             unit: UnitId::default(),
             words,
             acts,
-            looks: 0,
-            last_unit: 0,
-            last_number: 0,
+            looks: [0; 8],
+            last_units: [0; 8],
+            last_numbers: [0; 8],
         })
     }
 
@@ -106,9 +106,15 @@ impl Look for Rack {
 
     ghost stands = { Stands };
 
+    ghost makes = { λ _ _ _. ⊤ };
+
     ghost follows_itself = { itself };
 
     ghost follows_on = { further };
+
+    ghost makes_none = { λ _. tt };
+
+    ghost makes_more = { λ _ _ _ _ _ _ _. tt };
 
     fn units(&self) -> u8 {
         self.grid.layout.units
@@ -124,11 +130,12 @@ impl Look for Rack {
 
     fn look(&mut self, other: UnitId) -> u64 {
         let number = self.words[usize::from(other.get())];
-        let own = &mut self.acts[usize::from(self.unit.get())];
+        let unit = usize::from(self.unit.get());
+        let own = &mut self.acts[unit];
         own.note_seen(other, number);
-        self.looks = self.looks.saturating_add(1);
-        self.last_unit = other.get();
-        self.last_number = number;
+        self.looks[unit] = self.looks[unit].saturating_add(1);
+        self.last_units[unit] = other.get();
+        self.last_numbers[unit] = number;
         number
     }
 }

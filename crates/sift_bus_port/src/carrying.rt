@@ -56,9 +56,15 @@ impl<T: Port, B: Bus> Look for BusPort<T, B> {
 
     ghost stands = { λ p unit number. T.stands p.port unit number };
 
+    ghost makes = { λ p steps q. T.makes p.port steps q.port };
+
     ghost follows_itself = { λ p. (T.follows_itself p.port, itself B.allows (link_of T.view p)) };
 
     ghost follows_on = { λ p q s earlier later a b. (T.follows_on p.port q.port s.port earlier later a.0 b.0, further B.allows _ _ _ a.1 b.1) };
+
+    ghost makes_none = { λ p. T.makes_none p.port };
+
+    ghost makes_more = { λ p q s m n a b. T.makes_more p.port q.port s.port m n a b };
 
     fn units(&self) -> u8 {
         self.port.units()

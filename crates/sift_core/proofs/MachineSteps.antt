@@ -1,5 +1,5 @@
 -- What a step of one unit keeps of a machine, and what it tells.
-use Rattle.std.proofs.Common.{◌≡◌, ◌≢◌, ℕ, ◌<◌, Vec, List, [], length, length-set, slice_set, slice_index_or, true, sym, refl, ap, ◌∙◌, subst}
+use Rattle.std.proofs.Common.{◌≡◌, ◌≢◌, ℕ, ◌<◌, Vec, List, [], length, length-set, slice_set, slice_index, slice_index_or, true, sym, refl, ap, ◌∙◌, subst}
 use Rattle.std.specs.declared.alloc.Global.{Global}
 use Rattle.std.proofs.lemmas.List.{get_or-set_same, get_or-set_other, get_or_default}
 use mathlib.Core.Logic.{dite}
@@ -50,8 +50,8 @@ module _ (x : Rack) (u : ℕ) (c : Rack) (chosen : IsChosen x u c) where
     ranges = same_ranges i;
     unit = chosen.unit i;
     conduct = conduct_in (ledger_at (chosen.acts i).items (chosen.unit i));
-    looks = chosen.looks i;
-    last = record { unit = chosen.last_unit i; number = chosen.last_number i };
+    looks = slice_index (chosen.looks i) (chosen.unit i);
+    last = record { unit = slice_index (chosen.last_units i) (chosen.unit i); number = slice_index (chosen.last_numbers i) (chosen.unit i) };
   }
 
 -- a board drives on another view of the same unit, ranges and conduct

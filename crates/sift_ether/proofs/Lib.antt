@@ -5,3 +5,4 @@ pub mod Lists
 pub mod Puts
 pub mod Seated
 pub mod Seats
+pub mod Stories

@@ -5,10 +5,9 @@ use mathlib.Core.Option.{some, some-ne-none, some-injective}
 use native.Mathlib.Decide.{ℕ_discrete}
 use lib.ListN.{get_elem?}
 use Rattle.atomic_table.proofs.Lists.{set_here, set_else, at_longer}
-use Rattle.sift_buffer.specs.Conduct.{Conduct, put}
 use Rattle.sift_ether.specs.declared.rule.Chronicle.{Chronicle}
 use Rattle.sift_ether.specs.Rule.{HasUnit, LacksUnit, StandsFor, IsSeatedAt, TellConduct}
-use Rattle.sift_ether.proofs.Puts.{put_else}
+use Rattle.sift_ether.specs.Deeds.{conduct_by}
 
 -- what stands in a list stands below its length
 pub at_low : {A : Type 0} (l : List A) (j : ℕ) (b : A) → get_elem? l j ≡ some b → j < length l
@@ -65,46 +64,47 @@ lacks_both u (c ∷ cs) other a b = (a.0, lacks_both u cs other a.1 b)
 -- ---- what a seat stands for
 
 -- a unit of one seat is no unit of another
-pub lacks_other : (of : ℕ → Conduct) (seat_of : ℕ → ℕ) (u id other : ℕ) (view : List Chronicle) → seat_of u ≡ id → other ≢ id →
-    StandsFor of seat_of other view → LacksUnit u view
-lacks_other of seat_of u id other [] e ne t = tt
-lacks_other of seat_of u id other (c ∷ cs) e ne t = ((λ eu. ne (sym t.1 ∙ (ap seat_of eu ∙ e))), lacks_other of seat_of u id other cs e ne t.3)
+pub lacks_other : (part : ℕ → Chronicle) (seat_of : ℕ → ℕ) (u id other : ℕ) (view : List Chronicle) → seat_of u ≡ id → other ≢ id →
+    StandsFor part seat_of other view → LacksUnit u view
+lacks_other part seat_of u id other [] e ne t = tt
+lacks_other part seat_of u id other (c ∷ cs) e ne t = ((λ eu. ne (sym t.1 ∙ (ap seat_of eu ∙ e))), lacks_other part seat_of u id other cs e ne t.3)
 
 -- the seats of units may change, but not of these
-pub stands_moved : (of : ℕ → Conduct) (seat_of seat_of' : ℕ → ℕ) (id id' : ℕ) (view : List Chronicle) →
-    ((u : ℕ) → seat_of u ≡ id → LacksUnit u view ⊎ (seat_of' u ≡ id')) → StandsFor of seat_of id view → StandsFor of seat_of' id' view
-stands_moved of seat_of seat_of' id id' [] f t = tt
-stands_moved of seat_of seat_of' id id' (c ∷ cs) f t = (
+pub stands_moved : (part : ℕ → Chronicle) (seat_of seat_of' : ℕ → ℕ) (id id' : ℕ) (view : List Chronicle) →
+    ((u : ℕ) → seat_of u ≡ id → LacksUnit u view ⊎ (seat_of' u ≡ id')) → StandsFor part seat_of id view → StandsFor part seat_of' id' view
+stands_moved part seat_of seat_of' id id' [] f t = tt
+stands_moved part seat_of seat_of' id id' (c ∷ cs) f t = (
   t.0,
   ⊎_elim (λ (h : (c.unit ≢ c.unit) × LacksUnit c.unit cs). absurd (h.0 refl)) (λ e. e) (f c.unit t.1),
   t.2,
-  stands_moved of seat_of seat_of' id id' cs (λ u e. ⊎_elim (λ (h : (c.unit ≢ u) × LacksUnit u cs). inl h.1) (λ e'. inr e') (f u e)) t.3,
+  stands_moved part seat_of seat_of' id id' cs (λ u e. ⊎_elim (λ (h : (c.unit ≢ u) × LacksUnit u cs). inl h.1) (λ e'. inr e') (f u e)) t.3,
 )
 
 -- the chronicles of two seats at one
-pub stands_for_both : (of : ℕ → Conduct) (seat_of seat_of' : ℕ → ℕ) (id other : ℕ) (view view' : List Chronicle) → other ≢ id →
+pub stands_for_both : (part : ℕ → Chronicle) (seat_of seat_of' : ℕ → ℕ) (id other : ℕ) (view view' : List Chronicle) → other ≢ id →
     ((u : ℕ) → seat_of u ≡ id → seat_of' u ≡ id) → ((u : ℕ) → seat_of u ≡ other → seat_of' u ≡ id) →
-    StandsFor of seat_of id view → StandsFor of seat_of other view' → StandsFor of seat_of' id (view ++ view')
-stands_for_both of seat_of seat_of' id other [] view' ne f g a b = stands_moved of seat_of seat_of' other id view' (λ u e. inr (g u e)) b
-stands_for_both of seat_of seat_of' id other (c ∷ cs) view' ne f g a b = (
+    StandsFor part seat_of id view → StandsFor part seat_of other view' → StandsFor part seat_of' id (view ++ view')
+stands_for_both part seat_of seat_of' id other [] view' ne f g a b = stands_moved part seat_of seat_of' other id view' (λ u e. inr (g u e)) b
+stands_for_both part seat_of seat_of' id other (c ∷ cs) view' ne f g a b = (
   a.0,
   f c.unit a.1,
-  lacks_both c.unit cs view' a.2 (lacks_other of seat_of c.unit id other view' a.1 ne b),
-  stands_for_both of seat_of seat_of' id other cs view' ne f g a.3 b,
+  lacks_both c.unit cs view' a.2 (lacks_other part seat_of c.unit id other view' a.1 ne b),
+  stands_for_both part seat_of seat_of' id other cs view' ne f g a.3 b,
 )
 
--- a unit of another seat conducts itself otherwise
-pub stands_beside : (of : ℕ → Conduct) (seat_of : ℕ → ℕ) (u : ℕ) (d : Conduct) (id : ℕ) (view : List Chronicle) → seat_of u ≢ id →
-    StandsFor of seat_of id view → StandsFor (put of u d) seat_of id view
-stands_beside of seat_of u d id [] ne t = tt
-stands_beside of seat_of u d id (c ∷ cs) ne t = (
-  put_else of u d c.unit (λ e. ne (ap seat_of (sym e) ∙ t.1)) ∙ t.0,
+-- the parts of the units of another seat change
+pub stands_beside : (part part' : ℕ → Chronicle) (seat_of : ℕ → ℕ) (u id : ℕ) (view : List Chronicle) → ((v : ℕ) → v ≢ u → part' v ≡ part v) →
+    seat_of u ≢ id → StandsFor part seat_of id view → StandsFor part' seat_of id view
+stands_beside part part' seat_of u id [] same ne t = tt
+stands_beside part part' seat_of u id (c ∷ cs) same ne t = (
+  same c.unit (λ e. ne (ap seat_of (sym e) ∙ t.1)) ∙ t.0,
   t.1,
   t.2,
-  stands_beside of seat_of u d id cs ne t.3,
+  stands_beside part part' seat_of u id cs same ne t.3,
 )
 
 -- what a seat stands for tells conduct
-pub stand_told : (of : ℕ → Conduct) (seat_of : ℕ → ℕ) (id : ℕ) (view : List Chronicle) → StandsFor of seat_of id view → TellConduct of view
-stand_told of seat_of id [] t = tt
-stand_told of seat_of id (c ∷ cs) t = (t.0, stand_told of seat_of id cs t.3)
+pub stand_told : (part : ℕ → Chronicle) (seat_of : ℕ → ℕ) (id : ℕ) (view : List Chronicle) → StandsFor part seat_of id view →
+    TellConduct (λ u. conduct_by (part u)) view
+stand_told part seat_of id [] t = tt
+stand_told part seat_of id (c ∷ cs) t = (ap conduct_by t.0, stand_told part seat_of id cs t.3)

@@ -62,13 +62,13 @@ strays_by c = (conduct_by c).strays
 abbrev pub view_by : Ranges → Chronicle → View
 view_by r c = record { ranges = r; unit = c.unit; conduct = conduct_by c; looks = looks_in c.deeds; last = last_in c.deeds }
 
--- the chronicle with one deed more
-abbrev pub chronicle_with : Chronicle → Deed → Chronicle
-chronicle_with c e = record c { deeds = e ∷ c.deeds }
+-- the chronicle with one deed more, before which so many were done by all units
+abbrev pub chronicle_with : Chronicle → ℕ → Deed → Chronicle
+chronicle_with c place e = record c { deeds = e ∷ c.deeds; places = place ∷ c.places }
 
 -- the chronicle of a unit that has done nothing
 abbrev pub blank : ℕ → Chronicle
-blank u = record { unit = u; deeds = [] }
+blank u = record { unit = u; deeds = []; places = [] }
 
 -- the chronicles of n units that have done nothing, from the unit u on
 abbrev pub blanks_from : ℕ → ℕ → List Chronicle

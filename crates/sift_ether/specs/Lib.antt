@@ -5,5 +5,6 @@ pub mod Rule
 pub mod Seating
 pub mod Seats
 pub mod Steps
+pub mod Stories
 pub mod TableSeats
 pub mod Tokens

@@ -1,5 +1,5 @@
 -- A unit at its seat, as a port.
-use Rattle.std.specs.Prelude.{◌≡◌, ℕ, List, ◌++◌, ⊤}
+use Rattle.std.specs.Prelude.{◌≡◌, ℕ, ◌+◌, List, ◌++◌, length, ⊤}
 use Rattle.sift_buffer.specs.Conduct.{Stray}
 use Rattle.sift_buffer.specs.Views.{View}
 use Rattle.sift_ether.specs.declared.rule.Chronicle.{Chronicle}
@@ -26,6 +26,10 @@ pub record Follows (a : EtherSeat) (strays : List Stray) (b : EtherSeat) : Type 
   pub more : List Deed
   pub deeds : (chronicle_at b).deeds ≡ more ++ (chronicle_at a).deeds
   pub strays_are : strays_by (chronicle_at b) ≡ strays ++ strays_by (chronicle_at a)
+
+-- the unit has done so many deeds more, each by one step
+abbrev pub Makes : EtherSeat → ℕ → EtherSeat → Type 0
+Makes a n b = length (chronicle_at b).deeds ≡ length (chronicle_at a).deeds + n
 
 -- other threads store at any time, so a seat can't tell which number stands
 abbrev pub Stands : EtherSeat → ℕ → ℕ → Type 0

@@ -33,9 +33,9 @@ module _ {S : Type 0} where
   abbrev pub chronicle_of : Me S (List Chronicle) → Chronicle
   chronicle_of me = first_chronicle me.0
 
-  -- a seat that stood for one unit does so still, and its chronicle has the deed more that the step's number gives
+  -- a seat that stood for one unit does so still, and its chronicle has the deed more that the step's number gives, at some place
   abbrev pub AddsDeed : (ℕ → Deed) → Me S (List Chronicle) → ℕ → Me S (List Chronicle) → Type 0
-  AddsDeed deed me n me' = (c : Chronicle) → me ≡ (c ∷ [], []) → me' ≡ (chronicle_with c (deed n) ∷ [], [])
+  AddsDeed deed me n me' = (c : Chronicle) → me ≡ (c ∷ [], []) → (place : ℕ) × (me' ≡ (chronicle_with c place (deed n) ∷ [], []))
 
 -- a seat is of this table, which has a word for each shared word of the grid
 pub record IsAtTable (table : TableId) (grid : Grid) (seat : TableId) : Type 0 where
@@ -46,3 +46,9 @@ pub record IsAtTable (table : TableId) (grid : Grid) (seat : TableId) : Type 0 w
 pub record IsOne (r : Ranges) (me : Me ℕ (List Chronicle)) : Type 0 where
   pub sits : me ≡ (chronicle_of me ∷ [], [])
   pub here : (chronicle_of me).unit < r.units
+
+-- a seat that stood for one unit stands for it still, and the unit has done this deed more
+pub record HasDone (me : Me ℕ (List Chronicle)) (e : Deed) (me' : Me ℕ (List Chronicle)) : Type 0 where
+  pub sits : me' ≡ (chronicle_of me' ∷ [], [])
+  pub unit : (chronicle_of me').unit ≡ (chronicle_of me).unit
+  pub deeds : (chronicle_of me').deeds ≡ e ∷ (chronicle_of me).deeds

@@ -11,7 +11,7 @@ use crate::ether::Ether;
 use crate::rule::{Arrives, SharedWords, TableSeat, Together, WordTable};
 use crate::seat::Token;
 use sift_base::NoMemory;
-use sift_buffer::Journal;
+use sift_buffer::{Journal, events_keep_the_core_lawful, fresh_is_lawful};
 use std::alloc::Global;
 
 impl Ether {
@@ -97,6 +97,8 @@ fn close(table: WordTable, head: TableSeat)
     requires slots { table.shared.table_id.slots ≡ 0 }
     ensures { IsPartOfLawfulCore (ranges_at table.shared.key) head.me.0 }
 {
+    fresh_is_lawful();
+    events_keep_the_core_lawful();
     let closed = table.close_with(head);
     closed.free();
 }

@@ -9,14 +9,17 @@ ghost use Rattle.sift_ether.specs.declared.rule.Chronicle.{Chronicle as TheChron
 
 use crate::rule::{Chronicles, IsLawful};
 use atomic_table::TableRule;
-use sift_buffer::Grid;
+use sift_buffer::{Grid, events_keep_the_core_lawful, fresh_is_lawful};
 
-/// The rule of each ether's table is that its words, and the conduct of all units as their seats know
-/// it, are a lawful core. What `atomic_table` promises of a rule: it holds between any two steps, of
-/// whatever threads.
+/// Where the rule of an ether's table holds, its words, and the conduct of all units as their seats know
+/// it, are a lawful core. `atomic_table` promises of each rule that it "holds between any two steps", of
+/// whatever threads: so the core is lawful at every moment of a flight.
 pub fn the_rule_is_the_lawful_core()
     ensures { (grid : TheGrid) (s : State ℕ (List TheChronicle)) → ⟦<IsLawful as TableRule<u8, Chronicles, Grid>>⟧.holds grid s → IsLawfulTable (ranges_at grid) s }
-{}
+{
+    fresh_is_lawful();
+    events_keep_the_core_lawful();
+}
 
 /// Whatever was done at a seat, the token that it gives back is of its ether and unit, and has what
 /// the seat had.

@@ -13,7 +13,7 @@ use crate::rule::{First, SharedWords, TableSeat, WordTable};
 use crate::seat::Token;
 use atomic_table::Table;
 use sift_base::{Layout, NoMemory, UnitId};
-use sift_buffer::{Acts, Grid, fresh_is_lawful};
+use sift_buffer::{Acts, Grid};
 use std::alloc::{AllocError, Global};
 
 impl Ether {
@@ -75,7 +75,6 @@ fn open(alloc: Global, words: &[u64], grid: &Grid) -> Result<(WordTable, TableSe
     ensures grid { IfOk result (λ t. t.0.shared.key ≡ grid.now) }
     ensures head { IfOk result (λ t. (t.1.table_id ≡ t.0.shared.table_id) × (t.1.me ≡ (blanks_from 0 grid.now.layout.units, []))) }
 {
-    fresh_is_lawful();
     Table::of_words(alloc, words, grid)
 }
 

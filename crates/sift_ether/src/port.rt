@@ -1,8 +1,8 @@
 //! A unit takes its seat, is a port there, and leaves it.
 ghost use Rattle.sift_ether.specs.Tokens.{IsTokenOf};
 ghost use Rattle.sift_ether.specs.Seating.{IsSeatOf, IsTokenBack};
-ghost use Rattle.sift_ether.specs.Seats.{view_of, Follows, Stands};
-ghost use Rattle.sift_ether.specs.Following.{itself, further};
+ghost use Rattle.sift_ether.specs.Seats.{view_of, Follows, Makes, Stands};
+ghost use Rattle.sift_ether.specs.Following.{itself, further, no_step, more_steps};
 
 use crate::ether::Ether;
 use crate::seat::{EtherSeat, Token};
@@ -51,9 +51,15 @@ impl Look for EtherSeat<'_> {
 
     ghost stands = { Stands };
 
+    ghost makes = { Makes };
+
     ghost follows_itself = { itself };
 
     ghost follows_on = { further };
+
+    ghost makes_none = { no_step };
+
+    ghost makes_more = { more_steps };
 
     fn units(&self) -> u8 {
         self.grid.layout.units

@@ -1,6 +1,6 @@
 //! The rule of the table of shared words: what it knows of each unit, and what its steps tell.
 ghost use Rattle.sift_ether.specs.Deeds.{blanks_from};
-ghost use Rattle.sift_ether.specs.Rule.{IsLawfulTable};
+ghost use Rattle.sift_ether.specs.Rule.{HasStory};
 ghost use Rattle.sift_ether.specs.TableSeats.{ranges_at, first_of, rest_of, AddsDeed};
 ghost use Rattle.std.specs.Prelude.{◌≡◌, [], ◌++◌, ℕ};
 ghost use Rattle.sift_ether.specs.declared.rule.Deed.{Deed as TheDeed};
@@ -47,10 +47,11 @@ pub enum Deed {
     },
 }
 
-/// A unit and all its deeds, the newest first.
+/// A unit and all its deeds, the newest first, and how many deeds of all units were done before each.
 pub struct Chronicle {
     pub unit: u64,
     pub deeds: LinkedList<Deed>,
+    pub places: LinkedList<u64>,
 }
 
 /// What a seat of the table knows: the units for which it stands, and all that they did.
@@ -65,12 +66,12 @@ pub type WordTable = Table<u8, Chronicles, Grid, IsLawful, Global>;
 /// A seat of the table.
 pub type TableSeat = Seat<u8, Chronicles>;
 
-/// The rule: the words, and the conduct of all units as their seats know it, are a lawful core. At
-/// first one seat stands for all units.
+/// The rule: the words are what one story of the deeds of all units made of words that were 0, and each
+/// seat knows its units' parts of it. At first one seat stands for all units.
 pub struct IsLawful;
 
 impl TableRule<u8, Chronicles, Grid> for IsLawful {
-    ghost holds = { λ grid. IsLawfulTable (ranges_at grid) };
+    ghost holds = { λ grid. HasStory (ranges_at grid) };
 
     ghost first = { λ grid. blanks_from 0 grid.layout.units };
 }

@@ -1,14 +1,12 @@
 //! The single steps of a seat that stands for one unit: a load and a store. Each is one call of the
 //! unit, and one event of the core.
-ghost use Rattle.std.specs.Prelude.{◌≡◌, ◌<◌, ℕ, [], ◌∷◌};
+ghost use Rattle.std.specs.Prelude.{◌≡◌, ◌<◌, ℕ};
 ghost use Rattle.sift_buffer.specs.Ranges.{shared_words};
-ghost use Rattle.sift_ether.specs.Deeds.{chronicle_with};
 ghost use Rattle.sift_ether.specs.Steps.{MayLoad, MayStore, deed_of};
-ghost use Rattle.sift_ether.specs.TableSeats.{ranges_at, chronicle_of, IsAtTable, IsOne};
+ghost use Rattle.sift_ether.specs.TableSeats.{ranges_at, chronicle_of, HasDone, IsAtTable, IsOne};
 
 use crate::rule::{Adds, SharedWords, TableSeat, Told};
 use sift_base::{UnitId, Word};
-use sift_buffer::events_keep_the_core_lawful;
 
 /// A call of a unit, without the number that its step loads or stores. It is for proofs alone: no step
 /// looks at it.
@@ -46,9 +44,8 @@ pub fn load<C: Told>(words: &SharedWords, seat: &mut TableSeat, word: usize, cal
     requires told { C.deed ≡ deed_of call }
     requires may { MayLoad (ranges_at words.now.key) (chronicle_of seat.old.me) word call }
     ensures table { (seat.new.table_id ≡ seat.old.table_id) × (seat.new.id ≡ seat.old.id) }
-    ensures seat { seat.new.me ≡ (chronicle_with (chronicle_of seat.old.me) (deed_of call result) ∷ [], []) }
+    ensures seat { HasDone seat.old.me (deed_of call result) seat.new.me }
 {
-    events_keep_the_core_lawful();
     words.load::<Adds<C>>(seat, word)
 }
 
@@ -66,8 +63,7 @@ pub fn store<C: Told>(
     requires told { C.deed ≡ deed_of call }
     requires may { MayStore (ranges_at words.now.key) (chronicle_of seat.old.me) word number call }
     ensures table { (seat.new.table_id ≡ seat.old.table_id) × (seat.new.id ≡ seat.old.id) }
-    ensures seat { seat.new.me ≡ (chronicle_with (chronicle_of seat.old.me) (deed_of call number) ∷ [], []) }
+    ensures seat { HasDone seat.old.me (deed_of call number) seat.new.me }
 {
-    events_keep_the_core_lawful();
     words.store::<Adds<C>>(seat, word, number);
 }

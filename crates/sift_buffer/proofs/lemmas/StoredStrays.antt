@@ -1,5 +1,5 @@
 -- A stray that is stored, as an event of a rack.
-use Rattle.std.proofs.Common.{◌≡◌, ℕ, ◌<◌, List, [], ◌∷◌, refl, sym, ap, ◌∙◌}
+use Rattle.std.proofs.Common.{◌≡◌, ℕ, ◌<◌, List, [], ◌∷◌, slice_index, refl, sym, ap, ◌∙◌}
 use Rattle.sift_buffer.specs.Ranges.{IsCell}
 use Rattle.sift_buffer.specs.Conduct.{Stray, put, never, with_stray}
 use Rattle.sift_buffer.specs.Core.{stray}
@@ -26,8 +26,8 @@ module _ (a : Rack) (u : ℕ) (s : Stray) (b : Rack) (stored : IsStored a u s b)
     ranges = same_ranges i;
     unit = p;
     conduct = conduct_in (same_ledger p i);
-    looks = stored.looks i;
-    last = record { unit = stored.last_unit i; number = stored.last_number i };
+    looks = slice_index (stored.looks i) p;
+    last = record { unit = slice_index (stored.last_units i) p; number = slice_index (stored.last_numbers i) p };
   }
 
   -- whatever was stored before, the core is reached by one event

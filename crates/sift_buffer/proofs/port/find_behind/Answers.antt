@@ -1,5 +1,7 @@
-use Rattle.std.proofs.Common.{◌≡◌, ◌≢◌, ◌≤◌, ◌<◌, ◌+◌, ℕ, [], sym, subst, ◌∙◌, arith}
+use Rattle.std.proofs.Common.{◌≡◌, ◌≢◌, ◌≤◌, ◌<◌, ◌+◌, ℕ, [], sym, refl, subst, ◌∙◌, arith}
+use Rattle.sift_buffer.specs.Counts.{others_below}
 use Rattle.sift_buffer.specs.Views.{View, LooksRound, view_with_look}
+use Rattle.sift_buffer.proofs.Counts.{one_more, no_more, none_below}
 use Rattle.sift_buffer.proofs.Rounds.{round_skip, round_look, round_none, round_behind, is_other, still_other, apart_by, same_by}
 use Rattle.sift_buffer.proofs.port.find_behind.Goals.{in-Some+then-ne+else-seen-progress, in-Some+else-ne, in_default}
 use Rattle.sift_buffer.proofs.port.find_behind.Goals as goal
@@ -25,10 +27,20 @@ loop-number-preserved g c =
           subst (λ (x : View). LooksRound v (n + 1) x) (sym (w.look-seen.ensures.looked
           ∙ (λ i. view_with_look (g.L.Look.view c.loop-number.port) (w.in-Some.ensures.found.0 i) w.look-seen.result)))
           (round_look v _ n w.look-seen.result inv.round other up) in
-          rw w.port-is (record { follows = g.met.L.Look.follows_on _ _ _ [] [] inv.follows w.look-seen.ensures.follows; within = within; round = round })
+          let steps : g.L.Look.makes c.args.port.now (others_below v.unit (n + 1)) w.look-seen.new.self =
+          subst (λ (k : ℕ). g.L.Look.makes c.args.port.now k w.look-seen.new.self) (one_more v.unit n other)
+          (g.met.L.Look.makes_more _ _ _ _ 1 inv.steps w.look-seen.ensures.steps) in
+          rw w.port-is (record {
+            follows = g.met.L.Look.follows_on _ _ _ [] [] inv.follows w.look-seen.ensures.follows;
+            steps = steps;
+            within = within;
+            round = round;
+          })
       | in-Some+else-ne w ↦
           let own : n ≡ v.unit = sym w.in-Some.ensures.found.0 ∙ (same_by w.in-Some.other c.unit-own.result w.if-ne.ensures ∙ c.unit-own.ensures) in
-          rw w.port-is (record { follows = inv.follows; within = within; round = round_skip v _ n inv.round own })
+          let steps : g.L.Look.makes c.args.port.now (others_below v.unit (n + 1)) c.loop-number.port =
+          subst (λ (k : ℕ). g.L.Look.makes c.args.port.now k c.loop-number.port) (no_more v.unit n own) inv.steps in
+          rw w.port-is (record { follows = inv.follows; steps = steps; within = within; round = round_skip v _ n inv.round own })
       | in_default w ↦ let high = w.in_default.ensures.none in let few = c.units-units.ensures.few in absurd (omega arith)
     ]
 
@@ -51,3 +63,30 @@ returns-then-seen-progress-clause-round g c =
 
 pub returns-then-seen-progress-clause-follows : goal.returns-then-seen-progress-clause-follows
 returns-then-seen-progress-clause-follows g c = g.met.L.Look.follows_on _ _ _ [] [] c.loop-number.invariant.follows c.look-seen.ensures.follows
+
+pub loop-number-init : goal.loop-number-init
+loop-number-init g c = record {
+  follows = g.met.L.Look.follows_itself c.args.port.now;
+  steps = subst (λ (k : ℕ). g.L.Look.makes c.args.port.now k c.args.port.now) (sym (none_below (g.L.Look.view c.args.port.now).unit))
+      (g.met.L.Look.makes_none c.args.port.now);
+  within = omega arith;
+  round = record { found = []; all = refl; reached = tt; after = refl };
+}
+
+pub returns-clause-steps : goal.returns-clause-steps
+returns-clause-steps g c =
+    let v : View = g.L.Look.view c.args.port.now in
+    let inv = c.loop-number.invariant in
+    let all : c.loop-number.number ≡ c.units-units.result = let t = c.loop-number-test.false in let w = inv.within in omega arith in
+    subst (λ (n : ℕ). g.L.Look.makes c.args.port.now (others_below v.unit n) c.loop-number.port) (all ∙ c.units-units.ensures.count) inv.steps
+
+pub returns-then-seen-progress-clause-steps : goal.returns-then-seen-progress-clause-steps
+returns-then-seen-progress-clause-steps g c =
+    let v : View = g.L.Look.view c.args.port.now in
+    let p : ℕ = c.in-Some.other in
+    let here : p ≡ c.loop-number.number = c.in-Some.ensures.found.0 in
+    let other : p ≢ v.unit = λ e. apart_by p c.unit-own.result c.if-ne.ensures (e ∙ sym c.unit-own.ensures) in
+    subst (λ (k : ℕ). g.L.Look.makes c.args.port.now k c.look-seen.new.self) (one_more v.unit p other)
+    (g.met.L.Look.makes_more _ _ _ _ 1
+    (subst (λ (k : ℕ). g.L.Look.makes c.args.port.now (others_below v.unit k) c.loop-number.port) (sym here) c.loop-number.invariant.steps)
+    c.look-seen.ensures.steps)

@@ -4,4 +4,4 @@ use Rattle.sift_ether.proofs.Dealing.{opens}
 use Rattle.sift_ether.proofs.make.open.Goals as goal
 
 pub of_words-requires : goal.of_words-requires
-of_words-requires c = opens c.fresh_is_lawful.ensures (ranges_at c.args.grid.now) _ [] c.requires
+of_words-requires c = opens (ranges_at c.args.grid.now) _ [] c.requires

@@ -22,6 +22,8 @@ returns-clause-follows c =
       noted = c.note_said.ensures.conduct;
       beside = λ d strays. refl;
       acts = refl;
+      looks = λ p ne. refl;
+      last = λ p ne. refl;
       doer_is = refl;
       may = λ w. (
         x.here,

@@ -17,4 +17,5 @@ returns-clause-follows c =
       frames = c.store.ensures.frames;
       unit = c.store.ensures.unit;
       reaches = stray_reaches x x.unit (stray_to a.to a.slot a.cell) b c.store.ensures x.here c.requires.turned c.requires.cell;
+      others = λ p ne. same_view x x.unit (stray_to a.to a.slot a.cell) b c.store.ensures p;
     }
