@@ -78,7 +78,9 @@ module _ (m : FlownMission) (strays : Strays) (fl : Flight) (f : ℕ) (us : List
         let behind = together q u wq.member (wider m strays fl f us here u fu q wq.works) fu.member (itself m strays fl f us here u fu) in
         let error = error_of q u wq.member fu.member in
         let told = here.flyable.clocks.admitted.told in
-        let reading = ap (λ h. reading_of h (offset q) (m.errors q u)) heard ∙ words_are_read_right (offset u) (offset q) (m.errors q u) (omega (arith, ints, ahead, behind, told), omega (arith, ints, ahead, behind, told)) in
+        let read = words_are_read_right (offset u) (offset q) (m.errors q u)
+        (omega (arith, ints, ahead, behind, told), omega (arith, ints, ahead, behind, told)) in
+        let reading = ap (λ h. reading_of h (offset q) (m.errors q u)) heard ∙ read in
         absurd (too_far_is (m.skew +ℤ m.error) ((offset u -ℤ offset q) +ℤ m.errors q u)
         (omega (arith, ints, ahead, behind, error), omega (arith, ints, ahead, behind, error))
         (subst (λ r. is_too_far (m.skew +ℤ m.error) r ≡ true) reading far))

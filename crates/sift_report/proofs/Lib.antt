@@ -2,6 +2,7 @@ mod Alike
 mod CaughtLines
 mod CompiledFrames
 mod FirstLiar
+mod FlownFault
 mod FrameLines
 mod HeadlineLines
 mod Held

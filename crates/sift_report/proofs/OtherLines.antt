@@ -4,20 +4,17 @@ use Rattle.std.specs.List.{filter}
 use Rattle.std.proofs.lemmas.Int.{ints}
 use Rattle.std.proofs.lemmas.Option.{none-some, same_Some}
 use Rattle.sift_base.specs.Units.{HasMargin, has}
-use Rattle.sift_table.specs.Laws.{PlainTablesAreGood}
 use Rattle.sift_skew.specs.laws.Leads.{skew_is_unique}
 use Rattle.sift_line.specs.declared.line.ReportLine.TheVariants.{Frame, Last}
-use Rattle.sift_flight.specs.Calms.{CalmMissionsFly}
 use Rattle.sift_report.specs.Told.{HasMarginTold, IsWorking, works_in}
-use Rattle.sift_report.specs.TwoCatchers.{FaultIsWithinTheHeadline, OtherLinesAreRefused, all_five, four_left, mission, one_catcher, other, unit_4_stays}
-use Rattle.sift_report.proofs.TwoCatchers.{headline_holds, holds-none, holds-only, no_skew}
-use Rattle.sift_report.proofs.TwoCatchersFit.{parts_fit}
+use Rattle.sift_report.specs.TwoCatchers.{OtherLinesAreRefused, all_five, four_left, mission, one_catcher, other, unit_4_stays}
+use Rattle.sift_report.proofs.TwoCatchers.{holds-none, holds-only, no_skew}
 use Rattle.sift_report.proofs.Tells.{two_tell}
 
 working : (u f : ℕ) → has all_five u ≡ true → works_in mission u f ≡ true → IsWorking mission u f
 working u f there works = record { unit = there; works = works }
 
-other_lines_are_refused : OtherLinesAreRefused
+pub other_lines_are_refused : OtherLinesAreRefused
 other_lines_are_refused = record {
   form = λ h. let e : 3 ≡ 2 = (h.units 2 (omega arith)).1 in omega (arith, e);
   end = λ h. let e : 14 ≡ 13 = h.nothing_more refl in omega (arith, e);
@@ -64,7 +61,3 @@ other_lines_are_refused = record {
     sound_still zero up = (all_five, refl, record { few = omega arith; enough = omega arith })
     sound_still (suc zero) up = (four_left, refl, record { few = omega arith; enough = omega arith })
     sound_still (suc (suc g)) up = absurd (omega arith)
-
--- the headline holds of the report of two catchers, in which unit 4 is faulty, and each of its items refuses other lines
-pub fault_is_within_the_headline : PlainTablesAreGood → CalmMissionsFly → FaultIsWithinTheHeadline
-fault_is_within_the_headline plain calm = record { holds = headline_holds (parts_fit plain calm); refuses = other_lines_are_refused }

@@ -15,18 +15,17 @@ use Rattle.sift_skew.specs.Figures.{IsSkew}
 use Rattle.sift_exec.specs.laws.Everyone.{holds-everyone}
 use Rattle.sift_skew.specs.laws.Leads.{Contains-map}
 use Rattle.sift_line.specs.Bad.{units_in}
-use Rattle.sift_mission.specs.PartsFit.{PartsFit}
 use Rattle.sift_report.specs.Headline.{HasForm, IsUnitsLine}
 use Rattle.sift_report.specs.Headline.{TellsClockSkew, TellsExactRemoval, TellsIdealOutputs, TellsNoFalseAccusation, TellsSameConfiguration, TellsSameInputs, TellsTrueMargin}
 use Rattle.sift_report.specs.Told.{HasMarginTold, IsSoundTold, agreed_told, line_at, told_at, IsWorking, works_in}
-use Rattle.sift_report.specs.TwoCatchers.{HeadlineOfAFault, all_five, four_left, lines, mission, no_unit, only}
+use Rattle.sift_report.specs.TwoCatchers.{TellsOfTheFault, all_five, four_left, lines, mission, no_unit, only}
 use Rattle.sift_report.proofs.Alike.{one_told}
 use Rattle.sift_report.proofs.Tells.{two_tell, working_clocks}
 
 -- ---- units
 
 -- what holds of each of five numbers holds below 5
-each_below : (P : ℕ → Type 0) → P 0 → P 1 → P 2 → P 3 → P 4 → (u : ℕ) → u < 5 → P u
+pub each_below : (P : ℕ → Type 0) → P 0 → P 1 → P 2 → P 3 → P 4 → (u : ℕ) → u < 5 → P u
 each_below P a b c d e zero low = a
 each_below P a b c d e (suc zero) low = b
 each_below P a b c d e (suc (suc zero)) low = c
@@ -35,7 +34,7 @@ each_below P a b c d e (suc (suc (suc (suc zero)))) low = e
 each_below P a b c d e (suc (suc (suc (suc (suc u))))) low = absurd (omega arith)
 
 -- unit 4 is faulty in each frame
-faulty_in : (f : ℕ) → works_in mission 4 f ≡ false
+pub faulty_in : (f : ℕ) → works_in mission 4 f ≡ false
 faulty_in f = rw (le-leb 0 f (omega arith)) refl
 
 -- what holds of the other four holds of each working unit
@@ -212,13 +211,10 @@ true_margin (suc zero) low = record {
 }
 true_margin (suc (suc f)) low = absurd (omega arith)
 
--- where the mission's parts fit, the headline holds of its report: both frames have margin by what is told, and unit 4, faulty in each, is out
--- after the first
-pub headline_holds : PartsFit mission → HeadlineOfAFault
-headline_holds fits = record {
-  fits = fits;
+-- the lines tell of the fault: both frames have margin by what is told, and unit 4 is out after the first
+pub lines_tell : TellsOfTheFault lines
+lines_tell = record {
   margin = margin 1 (omega arith);
-  faulty = faulty_in;
   before = refl;
   behind = refl;
   headline = record {

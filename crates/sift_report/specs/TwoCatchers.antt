@@ -1,6 +1,6 @@
--- The report of missions/two_catchers.toml in version 2, a small one with a fault in it: unit 4 of five says a wrong word to units 0 and 1 alone; both
--- catch it, and it is out of the next configuration. The headline holds of it while every frame has margin, and each item of the headline
--- refuses other lines.
+-- The report of missions/two_catchers.toml, a small one with a fault in it: unit 4 of five says a wrong word to units 0 and 1 alone; both catch it,
+-- and it is out of the next configuration. The mission has a round flight, and of each that it has the headline holds, while every frame has margin;
+-- and each item of the headline refuses other lines than those of its report in version 2.
 use Rattle.std.specs.Prelude.{codes, ◌≡◌, ℕ, List, [], ◌∷◌, ◌++◌, slice_set, true, false, None, Some, ℤ, pos}
 use Rattle.sift_base.specs.declared.slots.Layout.{Layout}
 use Rattle.sift_exec.specs.Conviction.{nobody, noted}
@@ -10,12 +10,16 @@ use Rattle.sift_script.specs.declared.script.SlotKind.TheVariants.{Out}
 use Rattle.sift_table.specs.Schedule.{plain_of}
 use Rattle.sift_mission.specs.Data.{MissionData}
 use Rattle.sift_mission.specs.PartsFit.{PartsFit}
+use Rattle.sift_mission.specs.Flown.{flown}
 use Rattle.sift_flight.specs.Calms.{count_task}
-use Rattle.sift_report.specs.Headline.{HasForm}
-use Rattle.sift_report.specs.Headline.{ReportHeadline, TellsClockSkew, TellsExactRemoval, TellsIdealOutputs, TellsNoFalseAccusation, TellsSameConfiguration, TellsSameInputs, TellsTrueMargin}
+use Rattle.sift_flight.specs.Flight.{Flight, Strays, IsRound, no_strays}
+use Rattle.sift_report.specs.Headline.{HasForm, ReportHeadline, TellsClockSkew, TellsExactRemoval, TellsIdealOutputs, TellsNoFalseAccusation, TellsSameConfiguration, TellsSameInputs, TellsTrueMargin}
+use Rattle.sift_report.specs.OneText.{HaveOneText}
+use Rattle.sift_report.specs.Sheet.{sheet_of}
 use Rattle.sift_report.specs.Told.{HasMarginTold, config_told, works_in}
 use Rattle.sift_line.specs.declared.catch.Bad.{Bad}
 use Rattle.sift_line.specs.declared.catch.Bad.TheVariants.{ByKind}
+use Rattle.sift_line.specs.declared.line.Version.{Version}
 use Rattle.sift_line.specs.declared.line.ReportLine.{ReportLine}
 use Rattle.sift_line.specs.declared.line.ReportLine.TheVariants.{Unit as unit, Faulty, Idle, Frame, Last}
 
@@ -126,15 +130,23 @@ sensing = record mission { layout = record { units = 5; sensors = 1; words = 1 }
 
 -- ---- what is so
 
--- the parts of the mission fit; both frames have margin by what is told, though unit 4 is faulty in each; it is configured out after the
--- first; and the headline holds
+-- what is told of the fault: both frames have margin, though unit 4 is faulty in each; it is configured out after the first; and the headline holds
+pub record TellsOfTheFault (report : List ReportLine) : Type 0 where
+  pub margin : HasMarginTold mission report 1
+  pub before : config_told mission report 0 ≡ Some all_five
+  pub behind : config_told mission report 1 ≡ Some four_left
+  pub headline : ReportHeadline mission report
+
+-- the parts of the mission fit, and unit 4 is faulty in each frame; it has a round flight, and all that it has print one report, which tells of the
+-- fault, in each version; and so do the lines above
 pub record HeadlineOfAFault : Type 0 where
   pub fits : PartsFit mission
-  pub margin : HasMarginTold mission lines 1
   pub faulty : (f : ℕ) → works_in mission 4 f ≡ false
-  pub before : config_told mission lines 0 ≡ Some all_five
-  pub behind : config_told mission lines 1 ≡ Some four_left
-  pub headline : ReportHeadline mission lines
+  pub flies : (fl : Flight) × IsRound (flown mission) no_strays fl
+  pub one : (strays others : Strays) (fl gl : Flight) → IsRound (flown mission) strays fl → IsRound (flown mission) others gl → HaveOneText mission fl gl
+  pub tells : (strays : Strays) (fl : Flight) (version : Version) → IsRound (flown mission) strays fl
+      → TellsOfTheFault (sheet_of (flown mission) fl version)
+  pub lines_tell : TellsOfTheFault lines
 
 -- each item refuses other lines
 pub record OtherLinesAreRefused : Type 0 where

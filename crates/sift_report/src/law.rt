@@ -7,8 +7,9 @@ ghost use Rattle.sift_report.specs.TwoCatchers.{FaultIsWithinTheHeadline};
 ghost use Rattle.sift_report.specs.Versions.{SheetsHaveTheirVersion};
 
 use sift_flight::{
-    calm_missions_fly, headline_holds, liars_are_out, margin_is_told, own_words_cost_nothing,
-    round_flights_have_accounts, skew_is_told, slack_is_told,
+    calm_missions_fly, each_mission_has_a_round_flight, headline_holds, liars_are_out,
+    margin_is_told, own_words_cost_nothing, round_flights_are_alike, round_flights_have_accounts,
+    skew_is_told, slack_is_told,
 };
 use sift_mission::fitting_parts_make_a_flight;
 use sift_table::plain_tables_are_good;
@@ -63,12 +64,19 @@ pub fn sheets_tell_their_flights()
     slack_is_told();
 }
 
-/// A report with a faulty unit, which is configured out within the margin, has the headline; and other lines lack its items.
+/// A mission with a faulty unit has a flight, and the one report of its flights, in which this unit is configured out within
+/// the margin, has the headline; and other lines lack its items.
 pub fn fault_is_within_the_headline()
     ensures { FaultIsWithinTheHeadline }
 {
     plain_tables_are_good();
     calm_missions_fly();
+    fitting_parts_make_a_flight();
+    each_mission_has_a_round_flight();
+    round_flights_are_alike();
+    alike_flights_have_one_text();
+    the_headline_is_printed();
+    caught_is_printed();
 }
 
 /// The report of the first liar meets the premises of what lies cost, and tells all of it; other lines don't.

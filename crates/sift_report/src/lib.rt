@@ -1,12 +1,10 @@
 //! The texts of a flight: its report, its votes, and the outputs of the ideal machine.
 #![tactic(auto)]
 
-mod compiled;
 mod ideal;
 mod law;
 mod poll;
 mod report;
-mod sheet;
 mod votes;
 
 pub use ideal::ideal_text;
@@ -15,8 +13,7 @@ pub use law::{
     first_liar_is_caught, sheets_have_their_version, sheets_tell_their_flights,
     the_headline_is_printed,
 };
-pub use report::{last_line_text, report_text};
-pub use sheet::{frame_line, last_line, unit_line};
+pub use report::{frame_line, last_line, last_line_text, report_text, unit_line};
 pub use sift_line::{
     Bad, ReportLine, Version, lines_are_texts, lines_come_apart, lines_tell_their_version,
     one_line_of_a_text, one_sheet_of_a_text, push_line, read_line,

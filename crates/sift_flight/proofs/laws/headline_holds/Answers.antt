@@ -1,5 +1,0 @@
-use Rattle.sift_flight.proofs.Induction.{headline_holds}
-use Rattle.sift_flight.proofs.laws.headline_holds.Goals as goal
-
-pub returns : goal.returns
-returns c = headline_holds

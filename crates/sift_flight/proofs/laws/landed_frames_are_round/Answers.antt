@@ -1,5 +1,0 @@
-use Rattle.sift_flight.proofs.Landed.{landed_frames_are_round}
-use Rattle.sift_flight.proofs.laws.landed_frames_are_round.Goals as goal
-
-pub returns : goal.returns
-returns c = landed_frames_are_round

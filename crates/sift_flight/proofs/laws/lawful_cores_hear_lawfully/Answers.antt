@@ -1,5 +1,0 @@
-use Rattle.sift_flight.proofs.Landed.{lawful_cores_hear_lawfully}
-use Rattle.sift_flight.proofs.laws.lawful_cores_hear_lawfully.Goals as goal
-
-pub returns : goal.returns
-returns c = lawful_cores_hear_lawfully

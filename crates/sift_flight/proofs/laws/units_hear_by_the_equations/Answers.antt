@@ -1,5 +1,0 @@
-use Rattle.sift_flight.proofs.Hears.{units_hear_by_the_equations}
-use Rattle.sift_flight.proofs.laws.units_hear_by_the_equations.Goals as goal
-
-pub returns : goal.returns
-returns c = units_hear_by_the_equations

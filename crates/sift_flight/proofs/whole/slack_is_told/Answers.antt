@@ -1,5 +1,0 @@
-use Rattle.sift_flight.proofs.Telling.{slack_is_told}
-use Rattle.sift_flight.proofs.whole.slack_is_told.Goals as goal
-
-pub returns : goal.returns
-returns c = slack_is_told

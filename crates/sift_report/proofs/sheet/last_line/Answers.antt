@@ -1,5 +1,0 @@
-use Rattle.std.proofs.Common.{refl}
-use Rattle.sift_report.proofs.sheet.last_line.Goals as goal
-
-pub returns : goal.returns
-returns c = rw (c.config_at.ensures.config, c.frames-frames.ensures, c.requires.margin) refl
