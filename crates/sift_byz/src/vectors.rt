@@ -5,7 +5,7 @@ ghost use Rattle.sift_byz.specs.Plan.{entry_in, byz_plan_of, stands_last, tells_
 ghost use Rattle.sift_byz.specs.Text.{line_text, text_of, words_text};
 ghost use Rattle.sift_byz.specs.Laws.{AnyUnitIsAgreedOn, LoyalUnitIsBelieved, LoyalValuesAreKept, OneTraitorIsAsInFlights, VectorsAreEqual, VectorsHoldTheEntries};
 ghost use Rattle.sift_byz.specs.Lawful.{OneByzPlan, OneRefusal, ByzPlansAreAccepted, StatedByzPlansAreLawful};
-ghost use Rattle.sift_byz.specs.Rows.{PremisesAreMet, Rows, ThreeAreTooFew};
+ghost use Rattle.sift_byz.specs.Worked.{PremisesAreMet, ThreeAreTooFew, WorkedVectors};
 
 use crate::reading::{ByzPlan, Lie, MOST_UNITS};
 use arrayvec::ArrayVec;
@@ -175,8 +175,8 @@ pub fn vectors_hold_the_entries()
 {}
 
 /// The vectors of plans that were worked out by hand.
-pub fn rows()
-    ensures { Rows }
+pub fn worked_vectors()
+    ensures { WorkedVectors }
 {}
 
 /// The laws speak of some plans.

@@ -1,4 +1,4 @@
--- Plans to try the definitions on: each row has vectors that were worked out by hand.
+-- Plans to try the definitions on, with vectors that were worked out by hand.
 use Rattle.std.specs.Prelude.{◌≡◌, ℕ, List, [], ◌∷◌, Some, None, true}
 use Rattle.sift_byz.specs.Plan.{LieData, ByzPlanData, TraitorsAreFew, is_loyal, vector}
 
@@ -34,9 +34,9 @@ seven = record {
       ∷ tells (0 ∷ 2 ∷ 1 ∷ []) 3 13 ∷ tells (0 ∷ 2 ∷ 1 ∷ []) 4 14 ∷ tells (2 ∷ 0 ∷ []) 3 15 ∷ tells (2 ∷ 0 ∷ 1 ∷ []) 4 16 ∷ [];
 }
 
--- the rows
-abbrev pub Rows : Type 0
-Rows =
+-- their vectors
+abbrev pub WorkedVectors : Type 0
+WorkedVectors =
     (vector four 1 ≡ (0 ∷ 2 ∷ 3 ∷ 4 ∷ []))
     × (vector four 2 ≡ (0 ∷ 2 ∷ 3 ∷ 4 ∷ []))
     × (vector four 3 ≡ (0 ∷ 2 ∷ 3 ∷ 4 ∷ []))
