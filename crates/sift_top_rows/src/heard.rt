@@ -68,11 +68,11 @@ impl Calls {
     }
 }
 
-/// Holds unit 1 at its first entry until all strays are stored. So no unit is past subframe 2 before, and a task's word is
-/// heard later. No worker has both unit 1 and the stray one.
+/// Holds unit 3 at its first entry until all strays are stored. So no unit is past subframe 2 before, and a task's word is
+/// heard later. Units with numbers side by side are never one thread's, so unit 4 isn't held.
 impl Probe for Calls {
     fn at(&self, unit: UnitId, subframe: u64) {
-        if (unit.get(), subframe) == (1, 1) {
+        if (unit.get(), subframe) == (3, 1) {
             self.wait();
         }
     }
