@@ -33,7 +33,7 @@ OffsetsAreKept =
 
 -- a round of a laboratory that can be run: the offsets before it are kept, and each faulty clock shows each working one
 -- something
-pub record IsRound (lab : Laboratory) (offsets : List ℤ) (shown : List (Option ℤ)) : Type 0 where
+pub record IsClockRound (lab : Laboratory) (offsets : List ℤ) (shown : List (Option ℤ)) : Type 0 where
   pub ready : IsReady lab
   pub kept : AreKept lab farthest offsets
   pub each_shown : length shown ≡ working_of lab * lab.m

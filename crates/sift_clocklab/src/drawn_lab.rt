@@ -153,6 +153,7 @@ fn drawn_row(
 {
     let mut row = Vec::new(alloc);
     for other in 0..working {
+        // A clock reads itself without a draw, so a row takes one draw less than there are clocks.
         let noise = if other == own { 0 } else { spread(draw, error) };
         row.push(noise)?;
     }

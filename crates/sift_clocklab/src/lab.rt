@@ -44,6 +44,7 @@ impl Face for Drawn {
         if self.draw.draw(4) == 0 {
             return None;
         }
+        // By a tick beyond the limit, so that readings are shown that are too far.
         Some(spread(&mut self.draw, u32::from(self.limit) + 1))
     }
 }
@@ -155,6 +156,7 @@ pub fn admits(n: u8, m: u8, skew: i32, error: i32, rate: i32) -> bool
 {
     let clocks = i32::from(n);
     let beyond = clocks - 3 * i32::from(m);
+    // Without a clock beyond three times the faulty ones no errors and drifts would still be let through.
     beyond >= 1 && 2 * clocks * (error + rate) <= skew * beyond
 }
 

@@ -5,7 +5,7 @@ ghost use Rattle.sift_base.specs.Units.{others};
 ghost use Rattle.sift_clocklab.specs.Laboratory.{laboratory_of, clocks_of, working_of, run_of};
 ghost use Rattle.sift_clocklab.specs.Rounds.{offset_after, reading_of, ticks_ahead, offsets_after};
 ghost use Rattle.sift_clocklab.specs.Conditions.{BothWork, IsReady};
-ghost use Rattle.sift_clocklab.specs.Skew.{AreKept, IsRound, farthest, IsKept};
+ghost use Rattle.sift_clocklab.specs.Skew.{AreKept, IsClockRound, farthest, IsKept};
 ghost use Rattle.std.specs.List.{All};
 ghost use Rattle.sift_clocklab.specs.Showing.{Runs, ShowsInTurn, pairs_of};
 ghost use Rattle.sift_clocklab.specs.Pages.{IsBlank, IsStarting};
@@ -31,7 +31,7 @@ fn ahead(lab: &Lab, offsets: &[i64], own: u8, other: u8) -> i32
 
 /// What the working clock `own` reads of another.
 fn reading(lab: &Lab, offsets: &[i64], shown: &[Option<i32>], own: u8, other: u8) -> Option<i32>
-    requires round { IsRound (laboratory_of lab.now) offsets.now shown.now }
+    requires round { IsClockRound (laboratory_of lab.now) offsets.now shown.now }
     requires own { own < working_of (laboratory_of lab.now) }
     requires other { other < lab.now.n }
     ensures { result ≡ reading_of (laboratory_of lab.now) offsets.now shown.now own other }
@@ -46,7 +46,7 @@ fn reading(lab: &Lab, offsets: &[i64], shown: &[Option<i32>], own: u8, other: u8
 
 /// What a working clock reads of all others, in their order.
 fn readings(lab: &Lab, offsets: &[i64], shown: &[Option<i32>], own: u8) -> ArrayVec<Option<i32>, 32>
-    requires round { IsRound (laboratory_of lab.now) offsets.now shown.now }
+    requires round { IsClockRound (laboratory_of lab.now) offsets.now shown.now }
     requires own { own < working_of (laboratory_of lab.now) }
     ensures { result.items ≡ map (reading_of (laboratory_of lab.now) offsets.now shown.now own)
         (others own (clocks_of (laboratory_of lab.now))) }
@@ -62,7 +62,7 @@ fn readings(lab: &Lab, offsets: &[i64], shown: &[Option<i32>], own: u8) -> Array
 
 /// The offset of a working clock after a round.
 fn offset_after(lab: &Lab, offsets: &[i64], shown: &[Option<i32>], own: u8) -> i64
-    requires round { IsRound (laboratory_of lab.now) offsets.now shown.now }
+    requires round { IsClockRound (laboratory_of lab.now) offsets.now shown.now }
     requires own { own < working_of (laboratory_of lab.now) }
     ensures { result ≡ offset_after (laboratory_of lab.now) offsets.now shown.now own }
 {
@@ -163,11 +163,12 @@ fn show_round<F: Face>(
 
 /// The offsets of all working clocks after a round, in a list that has room for them.
 fn offsets_after(lab: &Lab, offsets: &[i64], shown: &[Option<i32>], empty: Vec<i64>) -> Vec<i64>
-    requires round { IsRound (laboratory_of lab.now) offsets.now shown.now }
+    requires round { IsClockRound (laboratory_of lab.now) offsets.now shown.now }
     requires empty { empty.items ≡ [] }
     requires room { working_of (laboratory_of lab.now) ≤ vec_capacity empty }
     ensures { result.items ≡ offsets_after (laboratory_of lab.now) offsets.now shown.now }
 {
+    // In a list of their own: each clock reads the offsets that stood before the round.
     let mut after = empty;
     for own in 0..lab.working() {
         after.push_reserved(offset_after(lab, offsets, shown, own));

@@ -7,7 +7,7 @@ ghost use Rattle.sift_gen.specs.Scenario.{array_of, number, placed, sensor_table
 ghost use Rattle.sift_base.specs.Draw.{after};
 ghost use Rattle.sift_gen.specs.Tasks.{sensor_name};
 
-use crate::task::{drawn, task_tables};
+use crate::task::{WORDS, drawn, task_tables};
 use sift_base::{Draw, NoMemory};
 use std::alloc::Global;
 use toml::{Table, Value};
@@ -85,14 +85,17 @@ fn sensor_name(alloc: Global, k: u32) -> Result<String, NoMemory>
     Ok(format!(in alloc; "s{k}")?)
 }
 
-/// Sixteen words, drawn.
+/// How many words a sensor has.
+const WORDS_EACH: u32 = 16;
+
+/// The words of a sensor, drawn.
 fn drawn_words(alloc: Global, draw: &mut Draw) -> Result<Vec<Value>, NoMemory>
     ensures made { IfOk result (λ words. map view words.items ≡ sensor_words draw.old) }
     ensures drawn { IfOk result (λ _. draw.new ≡ after draw.old words_each) }
 {
     let mut words = Vec::new(alloc);
-    for _ in 0..16u32 {
-        let word = draw.draw(65536) as u32;
+    for _ in 0..WORDS_EACH {
+        let word = draw.draw(u64::from(WORDS)) as u32;
         words.push(Value::from(word))?;
     }
     Ok(words)
@@ -116,7 +119,7 @@ fn fault_table(
     let unit = drawn(draw, units);
     let from = drawn(draw, frames);
     let task = drawn(draw, tasks);
-    let value = drawn(draw, 65536);
+    let value = drawn(draw, WORDS);
     let item = Value::Table(fault_item(alloc, units, unit, task, value)?);
     let entries = with_number(alloc, Table::new(alloc), "unit", unit)?;
     let entries = with_number(alloc, entries, "from", from)?;

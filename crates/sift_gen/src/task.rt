@@ -13,6 +13,9 @@ use sift_base::{Draw, NoMemory};
 use std::alloc::Global;
 use toml::{Table, Value};
 
+/// How many words there are.
+pub(crate) const WORDS: u32 = 65_536;
+
 /// What a task does with its words.
 #[derive(Clone, Copy)]
 pub enum Pattern {
@@ -35,6 +38,7 @@ impl Pattern {
             1 => Pattern::Middle,
             2 => Pattern::Chase,
             3 if task > 0 => Pattern::Triple,
+            // The first task has no earlier one whose word it could take.
             _ => Pattern::Sum,
         }
     }
@@ -91,7 +95,7 @@ fn task_table(alloc: Global, draw: &mut Draw, task: u32, sensors: u32) -> Result
     ensures made { IfOk result (λ entries. table (table_view entries) ≡ task_table task sensors draw.old) }
     ensures drawn { IfOk result (λ _. draw.new ≡ after (after draw.old 2) (draws_by (pattern_from task draw.old))) }
 {
-    let start = drawn(draw, 65536);
+    let start = drawn(draw, WORDS);
     let pattern = Pattern::of(drawn(draw, 4), task);
     let text = pattern.text(alloc, draw, task, sensors)?;
     task_entries(alloc, task, start, text)

@@ -59,6 +59,7 @@ pub(crate) fn has_exact_removal(mission: &Mission, lines: &[ReportLine], f: u32)
     let Some(config) = config_told(mission, lines, f) else {
         return true;
     };
+    // Where none is told at the next frame, rule 2 is broken there.
     let Some(next) = config_told(mission, lines, f + 1) else {
         return true;
     };

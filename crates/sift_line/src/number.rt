@@ -13,7 +13,7 @@ ghost use Rattle.sift_config.specs.Config.{IsConfig};
 
 use crate::part::ListPart;
 use arrayvec::ArrayVec;
-use sift_base::{UnitId, UnitSet, Word};
+use sift_base::{UNIT_LIMIT, UnitId, UnitSet, Word};
 use sift_config::Config;
 use std::alloc::AllocError;
 
@@ -25,6 +25,7 @@ pub fn read_number(text: &str) -> Option<u32>
     ensures printed { IfSome result (λ n. decimal n ≡ text.now) }
     ensures exact { (n : ℕ) → n < 2 ^ 32 → decimal n ≡ text.now → result ≡ Some n }
 {
+    // `parse` takes a `+` and zeros in front too, and no line has them.
     if is_plain(text) {
         text.parse().ok()
     } else {
@@ -191,7 +192,7 @@ pub fn read_digit(digit: u8) -> Option<UnitId>
 }
 
 /// The ascending units that are printed so, where there are some.
-fn read_units(text: &str) -> Option<ArrayVec<UnitId, 8>>
+fn read_units(text: &str) -> Option<ArrayVec<UnitId, UNIT_LIMIT>>
     ensures ascend { IfSome result (λ units. AscendFrom 0 units.items) }
     ensures printed { IfSome result (λ units. units_text units.items ≡ text.now) }
     ensures exact { (units : Items ℕ) → AscendFrom 0 units.items → units_text units.items ≡ text.now → result ≡ Some units }
@@ -200,6 +201,7 @@ fn read_units(text: &str) -> Option<ArrayVec<UnitId, 8>>
     if text == "-" {
         return Some(units);
     }
+    // No unit at all is printed as `-`.
     if text.is_empty() {
         return None;
     }
@@ -245,5 +247,6 @@ pub fn read_config(text: &str) -> Option<Config>
     ensures exact { (cfg : List ℕ) → IsConfig cfg → units_text cfg ≡ text.now → result ≡ Some cfg }
 {
     let units = read_set(text)?;
+    // What is left of all units without the others: a configuration just where four stand.
     Config::all(8).without(UnitSet::of_bits(u8::MAX).minus(units))
 }

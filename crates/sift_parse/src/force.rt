@@ -225,6 +225,7 @@ impl<'a> Force<'a> {
             Some(keyword) => Token::Keyword(keyword),
             None => match self.number_named(names, word) {
                 Some(number) => Token::Name(number as u8),
+                // The scan ends at it, so nobody asks what it names.
                 None => Token::Name(0),
             },
         }

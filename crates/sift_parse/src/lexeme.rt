@@ -17,7 +17,7 @@ use std::alloc::Global;
 
 // ---- runs of bytes of one kind
 
-/// What is kept of a number that is greater than a text may hold.
+/// What is kept of a number that is greater than a text may hold. So a number of any length is read in 32 bits.
 const TOO_LARGE: u32 = 65_536;
 
 /// How many bytes at the front may stand in a name.
@@ -150,6 +150,7 @@ fn sign_at<'a>(bytes: &[u8]) -> Option<(Lexeme<'a>, usize)>
     ensures found { IfSome result (λ r. IsSignAt bytes.now (lexeme_of r.0) r.1) }
     ensures none { IfNone result (NoSignAt bytes.now) }
 {
+    // The longer sign first: else `<<` would be two comparisons.
     let (first, rest) = bytes.split_first()?;
     if let Some(second) = rest.first()
         && let Some(sign) = long_sign(*first, *second)
@@ -173,6 +174,7 @@ fn hex_len(bytes: &[u8]) -> usize
 fn digits_at(bytes: &[u8]) -> (u32, usize, usize)
     ensures { IsNumberAt bytes.now result.0 result.1 result.2 }
 {
+    // Without a digit behind it `0x` is the number 0 and an `x`, which may not follow it.
     match hex_len(bytes) {
         0 => (10, 0, digits_len(bytes, 10)),
         len => (16, 2, len),

@@ -87,6 +87,7 @@ fn prim(alloc: Global, tokens: &mut Tokens<'_>) -> Result<Expr, ReadStop>
         Token::Keyword(Keyword::Now) => Ok(Expr::Now(tokens.word()?)),
         Token::Keyword(Keyword::Last) => Ok(Expr::Last(tokens.word()?)),
         _ => {
+            // The place of an offence is where the tokens stand: before the one that offends.
             *tokens = front;
             Err(ReadStop::Syntax)
         }
@@ -159,6 +160,7 @@ fn statement(alloc: Global, tokens: &mut Tokens<'_>) -> Result<Option<Stmt>, Rea
             Ok(Some(Stmt::Repeat(rounds, braced(alloc, tokens)?)))
         }
         _ => {
+            // No statement begins with it, so it is left to who called for the block: it may be its `}`.
             *tokens = front;
             Ok(None)
         }

@@ -58,6 +58,7 @@ pub fn plan(
     plans_are_good();
     let mut draft = Draft::new(alloc, size, period, copies);
     for (t, task) in shapes.tasks.iter().enumerate() {
+        // Rows that stand aren't moved, so the first task without room decides.
         let Some(run) = draft.first_open(&task.needs) else {
             return Err(PlanStop::NoRoom { task: t as u8 });
         };
@@ -91,6 +92,7 @@ pub fn plan_sizes(
         (IsFirstWithoutRoom (shapes_of shapes.now) units period copies)) }
 {
     let mut tables = Vec::new(alloc);
+    // From the least size on: where there is no plan for several sizes, the least of them is told.
     for size in 4..units + 1 {
         match plan(alloc, shapes, size, period, copies) {
             Ok(table) => tables.push(table)?,

@@ -25,7 +25,7 @@ use std::thread::Threads;
 /// to the sink, and answers its exit status. The whole reply is made before any of it is written.
 ///
 /// The rogues are those of the units 0 to 7: that of a unit with a storm is called once the unit has turned stray. Where
-/// several workers fly, the probe is told of each entry of a unit into a subframe.
+/// several workers fly, the probe is told of entries of units into subframes; that it is told of each is seen by a test, and is no clause.
 ///
 /// The tests come in the order of the statuses 2, 8 or 11, 3, 4, 5, 6, 7, those of one command alone, and 9; `judge` tests
 /// before 3 whether a line divides its input. Words that are no command line never get 10.

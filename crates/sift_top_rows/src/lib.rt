@@ -5,7 +5,11 @@
 #[cfg(test)]
 mod calling;
 #[cfg(test)]
+mod entries;
+#[cfg(test)]
 mod faults;
+#[cfg(test)]
+mod heard;
 #[cfg(test)]
 mod machines;
 #[cfg(test)]

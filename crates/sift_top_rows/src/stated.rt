@@ -1,5 +1,5 @@
-//! The missions of the rows, as documents state them, and reports of two, which a plain simulator wrote that shares nothing
-//! with this program. Those of five and eight units that read a sensor have two tasks that each put out its word.
+//! The missions of the rows, as documents state them, reports of two, which a plain simulator wrote that shares nothing
+//! with this program, and the report and votes of a third, which were worked out by hand. Those of five and eight units that read a sensor have two tasks that each put out its word.
 
 ghost use Rattle.std.specs.Prelude.{◌≡◌, IfOk, length};
 ghost use Rattle.sift_base.specs.Units.{unit_limit};
@@ -58,6 +58,38 @@ pub(crate) const STORM_REPORT: &str = "f=0 u=0 cfg=01234 clk=0 in=- out=0010 bad
     f=1 u=3 cfg=0123 clk=0 in=- out=0031 bad=-\n\
     f=1 u=4 faulty\n\
     f=1 skew=0 slack=1 margin=ok\n\
+    end frames=2 cfg=0123 margin=ok\n";
+
+/// The same flight where its rogue is asked five times.
+pub(crate) const HEARD: &str =
+    "units = 5\nframes = 2\ntask = [{name = 'count', start = [5], linear = [3, 1]}]\n\
+    fault = [{unit = 4, from = 0, storm = {number = 1, strays = 5}}]\n";
+
+/// Its report, where the units 0 and 1 hear the word of unit 4 that is due, and the units 2 and 3 another.
+pub(crate) const HEARD_REPORT: &str = "f=0 u=0 cfg=01234 clk=0 in=- out=0010 bad=4c\n\
+    f=0 u=1 cfg=01234 clk=0 in=- out=0010 bad=4c\n\
+    f=0 u=2 cfg=01234 clk=0 in=- out=0010 bad=4pc\n\
+    f=0 u=3 cfg=01234 clk=0 in=- out=0010 bad=4pc\n\
+    f=0 u=4 faulty\n\
+    f=0 skew=0 slack=1 margin=ok\n\
+    f=1 u=0 cfg=0123 clk=0 in=- out=0031 bad=-\n\
+    f=1 u=1 cfg=0123 clk=0 in=- out=0031 bad=-\n\
+    f=1 u=2 cfg=0123 clk=0 in=- out=0031 bad=-\n\
+    f=1 u=3 cfg=0123 clk=0 in=- out=0031 bad=-\n\
+    f=1 u=4 faulty\n\
+    f=1 skew=0 slack=1 margin=ok\n\
+    end frames=2 cfg=0123 margin=ok\n";
+
+/// And its votes, where the other word is 7.
+pub(crate) const HEARD_VOTES: &str =
+    "f=0 u=0 t=count.0 words=0:0010,1:0010,2:0010,3:0010,4:0010 vote=0010\n\
+    f=0 u=1 t=count.0 words=0:0010,1:0010,2:0010,3:0010,4:0010 vote=0010\n\
+    f=0 u=2 t=count.0 words=0:0010,1:0010,2:0010,3:0010,4:0007 vote=0010\n\
+    f=0 u=3 t=count.0 words=0:0010,1:0010,2:0010,3:0010,4:0007 vote=0010\n\
+    f=1 u=0 t=count.0 words=0:0031,1:0031,2:0031,3:0031 vote=0031\n\
+    f=1 u=1 t=count.0 words=0:0031,1:0031,2:0031,3:0031 vote=0031\n\
+    f=1 u=2 t=count.0 words=0:0031,1:0031,2:0031,3:0031 vote=0031\n\
+    f=1 u=3 t=count.0 words=0:0031,1:0031,2:0031,3:0031 vote=0031\n\
     end frames=2 cfg=0123 margin=ok\n";
 
 /// Six units with three sensors and four tasks, of which unit 5 turns stray in frame 10.

@@ -8,7 +8,7 @@ use Rattle.sift_clock.specs.Distance.{IsWithin}
 use Rattle.sift_clock.specs.Correction.{correction_of}
 use Rattle.sift_clocklab.specs.Laboratory.{Laboratory, clocks_of, drift_of, laboratory_of, reading_limit, working_of}
 use Rattle.sift_clocklab.specs.Rounds.{offset_after, offset_of, reading_of}
-use Rattle.sift_clocklab.specs.Skew.{IsRound, farthest}
+use Rattle.sift_clocklab.specs.Skew.{IsClockRound, farthest}
 use Rattle.sift_clocklab.proofs.Keeping.{near_after}
 use Rattle.sift_clocklab.proofs.Ranges.{length-others-range}
 use Rattle.sift_clocklab.proofs.running.offset_after.Goals as goal
@@ -22,7 +22,7 @@ record AreParts (lab : Laboratory) (offsets : List ℤ) (shown : List (Option �
 
 -- their sum is the next offset, and that is near enough to 0
 sum_is : (lab : Laboratory) (offsets : List ℤ) (shown : List (Option ℤ)) (own at : ℕ) (limit correction drift : ℤ)
-    → IsRound lab offsets shown → own < working_of lab → AreParts lab offsets shown own at limit correction drift
+    → IsClockRound lab offsets shown → own < working_of lab → AreParts lab offsets shown own at limit correction drift
     → (offset_of offsets at +ℤ correction +ℤ drift ≡ offset_after lab offsets shown own)
     × IsWithin (pos (farthest + 24000)) (offset_after lab offsets shown own) (pos 0)
 sum_is lab offsets shown own at limit correction drift round low parts =
