@@ -1,6 +1,7 @@
 pub mod BytesIn
 pub mod BytesOut
 pub mod Flow
+pub mod Heard
 pub mod Reading
 pub mod Sure
 pub mod Writing

@@ -3,16 +3,15 @@
 //! All is proved for every reader and writer, by std's contracts of them. Of the handles of the real input and output
 //! std tells no bytes, so that they hand on those of the system is trusted.
 
-ghost use Rattle.std.specs.Prelude.{◌≡◌, ◌≢◌, ◌<◌, ◌≤◌, length};
+ghost use Rattle.std.specs.Prelude.{◌≡◌, ◌≢◌, ◌<◌, ◌≤◌, length, unwrap_or};
 ghost use Rattle.sift_io.specs.Flow.{Rose};
+ghost use Rattle.sift_io.specs.Heard.{IsEnough, IsToldBy};
 ghost use Rattle.sift_io.specs.Reading.{FitsRoom, GivesNext, ends_after_read, faults_after_read};
 ghost use Rattle.sift_io.specs.Writing.{AddsFront, FitsPiece, TakesNothing, faults_after_write};
 
-use crate::{Got, Put, Sink, Source};
-use std::io::{ErrorKind, Read, Stdin, Stdout, Write};
-
-/// How often a call is made where a signal interrupts it each time.
-const TRIES: u32 = 1_000;
+use crate::heard::{read_once, write_once};
+use crate::{Got, Heard, Put, Sink, Source};
+use std::io::{Read, Stdin, Stdout, Write};
 
 /// The standard input, or another reader of std. It tells the bytes that the reader tells: of the standard input none.
 #[derive(Drop)]
@@ -23,6 +22,8 @@ pub struct StdIn<R = Stdin> {
     pub faults: u64,
     /// How often reading met the end. It stays at its last value.
     pub ends: u64,
+    /// What the reader answered to the last read.
+    pub heard: Heard<Got>,
 }
 
 impl<R> StdIn<R> {
@@ -35,6 +36,7 @@ impl<R> StdIn<R> {
             input,
             faults: 0,
             ends: 0,
+            heard: Heard::nothing(),
         }
     }
 }
@@ -55,8 +57,10 @@ impl<R: Read> Source for StdIn<R> {
         ensures calm { result ≢ Got.Failed → self.new.faults ≡ self.old.faults }
         ensures ends { self.new.ends ≡ ends_after_read result self.old.ends }
         ensures counted { self.new.faults ≡ faults_after_read result self.old.faults }
+        ensures told { IsToldBy Got.Failed self.new.heard result }
     {
-        let got = read_some(&mut self.input, buf);
+        self.heard = read_some(&mut self.input, buf);
+        let got = self.heard.told_or(Got::Failed);
         if got == Got::Failed {
             self.faults = self.faults.saturating_add(1);
         }
@@ -66,20 +70,17 @@ impl<R: Read> Source for StdIn<R> {
 }
 
 /// Reads what is at hand, again where a signal interrupts it.
-fn read_some<R: Read>(input: &mut R, buf: &mut [u8]) -> Got
+fn read_some<R: Read>(input: &mut R, buf: &mut [u8]) -> Heard<Got>
     requires { 0 < length buf.old }
-    ensures within { FitsRoom result (length buf.old) }
-    ensures bytes { GivesNext result (R.remaining input.old) (R.remaining input.new) buf.new }
+    ensures enough { IsEnough result.told result.interruptions }
+    ensures within { FitsRoom (unwrap_or result.told Got.Failed) (length buf.old) }
+    ensures bytes { GivesNext (unwrap_or result.told Got.Failed) (R.remaining input.old) (R.remaining input.new) buf.new }
 {
-    for _ in 0..TRIES {
-        match input.read(buf) {
-            Ok(0) => return Got::End,
-            Ok(n) => return Got::Taken(n),
-            Err(error) if error.kind() == ErrorKind::Interrupted => {}
-            Err(_) => return Got::Failed,
-        }
+    let mut heard = Heard::nothing();
+    while heard.is_open() {
+        heard = read_once(heard, input, buf);
     }
-    Got::Failed
+    heard
 }
 
 /// The standard output, or another writer of std. It tells the bytes that the writer tells: of the standard output none.
@@ -89,6 +90,8 @@ pub struct StdOut<W = Stdout> {
     pub output: W,
     /// How often writing has failed. It stays at its last value.
     pub faults: u64,
+    /// What the writer answered to the last write.
+    pub heard: Heard<Put>,
 }
 
 impl<W> StdOut<W> {
@@ -97,7 +100,11 @@ impl<W> StdOut<W> {
         ensures output { result.output ≡ output }
         ensures fresh { result.faults ≡ 0 }
     {
-        StdOut { output, faults: 0 }
+        StdOut {
+            output,
+            faults: 0,
+            heard: Heard::nothing(),
+        }
     }
 }
 
@@ -114,8 +121,10 @@ impl<W: Write> Sink for StdOut<W> {
         ensures calm { ¬ TakesNothing result (length bytes.now)
             → self.new.faults ≡ self.old.faults }
         ensures counted { self.new.faults ≡ faults_after_write result self.old.faults }
+        ensures told { IsToldBy Put.Failed self.new.heard result }
     {
-        let put = write_some(&mut self.output, bytes);
+        self.heard = write_some(&mut self.output, bytes);
+        let put = self.heard.told_or(Put::Failed);
         if put == Put::Failed {
             self.faults = self.faults.saturating_add(1);
         }
@@ -124,18 +133,15 @@ impl<W: Write> Sink for StdOut<W> {
 }
 
 /// Writes what the writer takes, again where a signal interrupts it.
-fn write_some<W: Write>(output: &mut W, bytes: &[u8]) -> Put
-    ensures within { FitsPiece result (length bytes.now) }
-    ensures bytes { AddsFront result (W.contents output.old) (W.contents output.new) bytes.now }
-    ensures some { 0 < length bytes.now → result ≢ Put.Took 0 }
+fn write_some<W: Write>(output: &mut W, bytes: &[u8]) -> Heard<Put>
+    ensures enough { IsEnough result.told result.interruptions }
+    ensures within { FitsPiece (unwrap_or result.told Put.Failed) (length bytes.now) }
+    ensures bytes { AddsFront (unwrap_or result.told Put.Failed) (W.contents output.old) (W.contents output.new) bytes.now }
+    ensures some { 0 < length bytes.now → unwrap_or result.told Put.Failed ≢ Put.Took 0 }
 {
-    for _ in 0..TRIES {
-        match output.write(bytes) {
-            Ok(0) if !bytes.is_empty() => return Put::Failed,
-            Ok(n) => return Put::Took(n),
-            Err(error) if error.kind() == ErrorKind::Interrupted => {}
-            Err(_) => return Put::Failed,
-        }
+    let mut heard = Heard::nothing();
+    while heard.is_open() {
+        heard = write_once(heard, output, bytes);
     }
-    Put::Failed
+    heard
 }
