@@ -1,22 +1,26 @@
 //! The command `buses`.
 
-ghost use Rattle.std.specs.Prelude.{◌≡◌, IfOk, string_bytes};
-ghost use Rattle.sift_bus_jobs.specs.Buses.{BusesGives, FliesCalm, told};
-ghost use Rattle.sift_bus_jobs.specs.Numbers.{buses_job_of, word_given};
+ghost use Rattle.std.specs.Prelude.{◌≡◌, IfOk, false, string_bytes, true};
+ghost use Rattle.sift_bus_jobs.specs.Buses.{BusesGives, FliesCalm, HasStorm, buses_statuses, told};
+ghost use Rattle.sift_bus_jobs.specs.Numbers.{BusNumbers, buses_job_of, word_given};
 ghost use Rattle.sift_flight.specs.Flight.{Flight as Flown, HasNoStorms};
+ghost use Rattle.sift_load.specs.Loads.{mission_duty};
 ghost use Rattle.sift_mission.specs.Parts.{data_of, flown_of};
+ghost use Rattle.sift_reply.specs.Duty.{GivesOne, HasOwnStatuses};
 
 use crate::counts::push_words;
 use crate::flier::BusFlier;
-use crate::storms::has_storm;
-use sift_base::{NoMemory, Word};
+use sift_base::{NoMemory, UnitId, Word};
 use sift_bus_port::{Constant, logs_tell_what_was_heard};
-use sift_flight::round_flights_are_whole;
-use sift_load::{DOCUMENT_LIMIT, MissionJob, begin_for_bytes};
-use sift_mission::{Mission, a_mission_fits};
+use sift_flight::{round_flights_are_alike, round_flights_are_whole};
+use sift_load::{
+    DOCUMENT_LIMIT, MissionJob, begin_for_bytes, loading_gives_one, loading_has_own_statuses,
+};
+use sift_mission::{Mission, a_mission_fits, fitting_parts_make_a_flight};
 use sift_options::{Options, within};
-use sift_reply::{Begun, Job, Reply, Work};
-use sift_report::{Version, report_text};
+use sift_reply::{Begun, Job, NoWork, Reply, Work};
+use sift_report::{Version, alike_flights_have_one_text, report_text};
+use sift_scenario::stated_missions_fit;
 use std::alloc::Global;
 use std::marker::Model;
 
@@ -131,4 +135,43 @@ impl<F: BusFlier, W: Work> Job<F, W> for BusesJob {
     fn begin(self, alloc: Global, flier: F, bytes: &[u8]) -> Result<Begun<W>, NoMemory> {
         begin_for_bytes(alloc, flier, self, bytes)
     }
+}
+
+// ---- storms
+
+/// Whether a unit of the mission turns stray in some frame.
+fn has_storm(mission: &Mission) -> bool
+    ensures storm { result ≡ true → HasStorm (flown_of mission.now) }
+    ensures calm { result ≡ false → HasNoStorms (flown_of mission.now) }
+{
+    for number in 0..mission.parts().units {
+        if let Some(unit) = UnitId::of(number) {
+            if mission.parts().script.storm_of(unit).is_some() {
+                return true;
+            }
+        }
+    }
+    false
+}
+
+// ---- laws
+
+/// `buses` ends with 0, with 15 where the mission has a storm, or with the status of bytes that
+/// state no mission.
+pub fn buses_has_own_statuses<F: BusFlier>()
+    ensures { (flier : F) (job : BusNumbers) → HasOwnStatuses (mission_duty (BusesGives job)) buses_statuses }
+{
+    loading_has_own_statuses::<F, NoWork, BusesJob>();
+}
+
+/// `buses` gives one reply to each input: all flights of a mission without storms tell the same, and
+/// one with a storm isn't flown.
+pub fn buses_gives_one<F: BusFlier>()
+    ensures { (flier : F) (job : BusNumbers) → GivesOne (mission_duty (BusesGives job)) }
+{
+    loading_gives_one::<F, NoWork, BusesJob>();
+    fitting_parts_make_a_flight();
+    round_flights_are_alike();
+    alike_flights_have_one_text();
+    stated_missions_fit();
 }

@@ -5,9 +5,6 @@
 mod buses;
 mod counts;
 mod flier;
-mod law;
-mod storms;
 
-pub use buses::BusesJob;
+pub use buses::{BusesJob, buses_gives_one, buses_has_own_statuses};
 pub use flier::{BusFlier, one_each};
-pub use law::{buses_gives_one, buses_has_own_statuses};

@@ -2,7 +2,7 @@
 use Rattle.std.specs.Prelude.{◌≡◌, ℕ, List, ⊤}
 use Rattle.sift_flight.specs.Flight.{Strays}
 use Rattle.sift_jobs.specs.Flights.{AreCalm}
-use Rattle.sift_jobs.specs.declared.workers.Workers.TheVariants.{One}
+use Rattle.sift_jobs.specs.declared.order.Workers.TheVariants.{One}
 use Rattle.sift_mission.specs.Data.{MissionData}
 use Rattle.sift_reply.specs.Duty.{GivesOneTo}
 use Rattle.sift_reply.specs.Reply.{Reply}

@@ -10,8 +10,8 @@ use Rattle.sift_reply.specs.Reply.{Reply, done}
 use Rattle.sift_line.specs.Line.{IsLine, text_of_lines}
 use Rattle.sift_report.specs.Sheet.{end_of, sheet_of}
 use Rattle.sift_report.specs.Votes.{votes_of}
-use Rattle.sift_jobs.specs.declared.telling.Telling.{Telling}
-use Rattle.sift_jobs.specs.declared.telling.Telling.TheVariants.{Report, Votes, LastLine}
+use Rattle.sift_jobs.specs.declared.order.Telling.{Telling}
+use Rattle.sift_jobs.specs.declared.order.Telling.TheVariants.{Report, Votes, LastLine}
 
 -- ---- how many workers fly together
 

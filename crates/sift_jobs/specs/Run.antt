@@ -16,9 +16,9 @@ use Rattle.sift_report.specs.Headline.{ReportHeadline}
 use Rattle.sift_report.specs.Sheet.{sheet_of}
 use Rattle.sift_jobs.specs.Flights.{RepliesWith, IsFlightOf, IsTelling, fewest_workers}
 use Rattle.sift_jobs.specs.declared.run.RunJob.{RunJob}
-use Rattle.sift_jobs.specs.declared.telling.Telling.TheVariants.{Report}
-use Rattle.sift_jobs.specs.declared.workers.Workers.{Workers}
-use Rattle.sift_jobs.specs.declared.workers.Workers.TheVariants as worker
+use Rattle.sift_jobs.specs.declared.order.Telling.TheVariants.{Report}
+use Rattle.sift_jobs.specs.declared.order.Workers.{Workers}
+use Rattle.sift_jobs.specs.declared.order.Workers.TheVariants as worker
 
 -- ---- the workers that fly a mission, and how options ask for them
 

@@ -9,7 +9,7 @@ use Rattle.sift_reply.specs.Duty.{Duty}
 use Rattle.sift_scenario.specs.Mission.{IsMission}
 use Rattle.sift_jobs.specs.Flights.{RepliesWith}
 use Rattle.sift_jobs.specs.Run.{workers_of}
-use Rattle.sift_jobs.specs.declared.telling.Telling.TheVariants.{LastLine}
+use Rattle.sift_jobs.specs.declared.order.Telling.TheVariants.{LastLine}
 use Rattle.sift_jobs.specs.declared.trial.TrialJob.{TrialJob}
 
 -- what options ask for: the number, which has to be given, and the workers

@@ -6,7 +6,7 @@ use Rattle.sift_options.specs.declared.setting.Options.{Options}
 use Rattle.sift_reply.specs.Reply.{Reply}
 use Rattle.sift_jobs.specs.Flights.{RepliesWith}
 use Rattle.sift_jobs.specs.Run.{workers_of}
-use Rattle.sift_jobs.specs.declared.telling.Telling.TheVariants.{Votes}
+use Rattle.sift_jobs.specs.declared.order.Telling.TheVariants.{Votes}
 use Rattle.sift_jobs.specs.declared.votes.VotesJob.{VotesJob}
 
 -- what options ask for: the workers

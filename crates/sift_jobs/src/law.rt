@@ -20,9 +20,8 @@ ghost use Rattle.sift_reply.specs.Duty.{GivesOne, GivesOneTo, HasOwnStatuses};
 ghost use Rattle.sift_reply.specs.Reply.{done_status};
 
 use crate::check::CheckJob;
-use crate::flier::Flier;
 use crate::ideal::IdealJob;
-use crate::order::FlightOrder;
+use crate::order::{Flier, FlightOrder};
 use crate::plan::PlanJob;
 use crate::run::RunJob;
 use crate::votes::VotesJob;

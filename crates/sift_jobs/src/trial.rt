@@ -3,10 +3,7 @@
 ghost use Rattle.std.specs.Prelude.{◌≡◌};
 ghost use Rattle.sift_jobs.specs.Trial.{trial_job_of};
 
-use crate::flier::Flier;
-use crate::order::FlightOrder;
-use crate::telling::Telling;
-use crate::workers::Workers;
+use crate::order::{Flier, FlightOrder, Telling, Workers};
 use sift_base::NoMemory;
 use sift_options::Options;
 use sift_reply::{Begun, Job};

@@ -3,10 +3,7 @@
 ghost use Rattle.std.specs.Prelude.{◌≡◌};
 ghost use Rattle.sift_jobs.specs.Votes.{votes_job_of};
 
-use crate::flier::Flier;
-use crate::order::FlightOrder;
-use crate::telling::Telling;
-use crate::workers::Workers;
+use crate::order::{Flier, FlightOrder, Telling, Workers};
 use sift_base::NoMemory;
 use sift_load::{DOCUMENT_LIMIT, MissionJob, begin_for_bytes};
 use sift_mission::Mission;

@@ -63,9 +63,9 @@ pub record Output : Type 0 where
 abbrev pub IsWritten : Output → (text : List ℕ) → Type 0
 IsWritten output text = Appends output.before.written output.after.written text
 
--- the reply was given: its status, with its whole text written
+-- the reply was given: its status, with its whole text written; and the sink counted no fault
 abbrev pub IsGiven : Output → Reply → (status : ℕ) → Type 0
-IsGiven output reply status = (status ≡ reply.status) × IsWritten output reply.text
+IsGiven output reply status = (status ≡ reply.status) × IsWritten output reply.text × (output.after.faults ≡ output.before.faults)
 
 -- the sink failed after a prefix of the reply's text, and the status says so
 abbrev pub IsBroken : Output → Reply → (status : ℕ) → Type 0

@@ -2,7 +2,7 @@ use Rattle.std.proofs.Common.{◌<◌, option_map, ap, sym, ◌∙◌, arith}
 use Rattle.sift_config.specs.laws.FirstUnits.{low_unit, unit_low}
 use Rattle.sift_script.specs.declared.script.StormEntry.{StormEntry}
 use Rattle.sift_bus_jobs.proofs.Coming.{comes}
-use Rattle.sift_bus_jobs.proofs.storms.has_storm.Goals as goal
+use Rattle.sift_bus_jobs.proofs.buses.has_storm.Goals as goal
 
 -- this unit's
 pub returns-then-is_some-clause-storm : goal.returns-then-is_some-clause-storm

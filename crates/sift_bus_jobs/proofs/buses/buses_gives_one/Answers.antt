@@ -1,5 +1,5 @@
 use Rattle.sift_bus_jobs.proofs.OneReply.{one_reply}
-use Rattle.sift_bus_jobs.proofs.law.buses_gives_one.Goals as goal
+use Rattle.sift_bus_jobs.proofs.buses.buses_gives_one.Goals as goal
 
 pub returns : goal.returns
 returns g c = λ flier job bytes. c.loading_gives_one.ensures flier job bytes
