@@ -9,19 +9,19 @@ use Rattle.sift_ether.specs.Tokens.{IsAt, IsTokenOf, token_view, view_under}
 
 -- the seat of a token at this ether
 pub record IsSeatOf (e : Ether) (t : Token) (s : EtherSeat) : Type 0 where
-  pub words : s.words.now ≡ e.table.shared
+  pub words : s.reach.words.now ≡ e.table.shared
   pub grid : s.grid ≡ e.grid
-  pub seat : s.seat ≡ t.seat
+  pub seat : s.reach.seat ≡ t.seat
   pub unit : s.unit ≡ t.unit
   pub acts : s.acts ≡ t.acts
   pub view : view_of s ≡ token_view e t
 
 -- the token that a seat gives back
 pub record IsTokenBack (s : EtherSeat) (t : Token) : Type 0 where
-  pub seat : t.seat ≡ s.seat
+  pub seat : t.seat ≡ s.reach.seat
   pub unit : t.unit ≡ s.unit
   pub acts : t.acts ≡ s.acts
-  pub at : IsAt s.words.now.table_id s.grid.layout s.grid.frames t
+  pub at : IsAt s.reach.words.now.table_id s.grid.layout s.grid.frames t
   pub view : view_under s.grid.layout s.grid.frames t ≡ view_of s
 
 -- it is the ether's, and of the unit of t; it has what the seat had

@@ -10,19 +10,19 @@ use Rattle.sift_ether.specs.TableSeats.{ranges_at, chronicle_of}
 
 -- what the table knows of the unit
 abbrev pub chronicle_at : EtherSeat → Chronicle
-chronicle_at s = chronicle_of s.seat.me
+chronicle_at s = chronicle_of s.reach.seat.me
 
 -- what contracts see of the seat: it is read off the chronicle, and not off the memory
 abbrev pub view_of : EtherSeat → View
-view_of s = view_by (ranges_at s.words.now.key) (chronicle_at s)
+view_of s = view_by (ranges_at s.reach.words.now.key) (chronicle_at s)
 
 -- the same unit at the same seat of the same table, which has done more, with these strays, the newest first
 pub record Follows (a : EtherSeat) (strays : List Stray) (b : EtherSeat) : Type 0 where
-  pub words : b.words ≡ a.words
+  pub words : b.reach.words ≡ a.reach.words
   pub grid : b.grid ≡ a.grid
   pub unit : b.unit ≡ a.unit
-  pub table : b.seat.table_id ≡ a.seat.table_id
-  pub id : b.seat.id ≡ a.seat.id
+  pub table : b.reach.seat.table_id ≡ a.reach.seat.table_id
+  pub id : b.reach.seat.id ≡ a.reach.seat.id
   pub more : List Deed
   pub deeds : (chronicle_at b).deeds ≡ more ++ (chronicle_at a).deeds
   pub strays_are : strays_by (chronicle_at b) ≡ strays ++ strays_by (chronicle_at a)

@@ -6,7 +6,7 @@ ghost use Rattle.sift_ether.specs.Following.{itself, further, no_step, more_step
 
 use crate::ether::Ether;
 use crate::seat::{EtherSeat, Token};
-use crate::steps::{Call, load, store};
+use crate::steps::{Call, Reach};
 use sift_base::{UnitId, Word};
 use sift_buffer::{Look, Port, pack, take};
 use std::marker::Brand;
@@ -19,9 +19,8 @@ impl Ether {
     {
         let Token { seat, unit, acts } = token;
         EtherSeat {
-            words: &self.table.shared,
+            reach: Reach::of(&self.table.shared, seat),
             grid: self.grid,
-            seat,
             unit,
             acts,
         }
@@ -34,13 +33,16 @@ impl EtherSeat<'_> {
         ensures { IsTokenBack self.entry result }
     {
         let EtherSeat {
-            words: _,
+            reach,
             grid: _,
-            seat,
             unit,
             acts,
         } = self;
-        Token { seat, unit, acts }
+        Token {
+            seat: reach.end(),
+            unit,
+            acts,
+        }
     }
 }
 
@@ -75,7 +77,7 @@ impl Look for EtherSeat<'_> {
 
     fn look(&mut self, other: UnitId) -> u64 {
         let word = usize::from(other.get());
-        let number = load::<Brand>(self.words, &mut self.seat, word, Call::Look { other });
+        let number = self.reach.load::<Brand>(word, Call::Look { other });
         self.acts.note_seen(other, number);
         number
     }
@@ -94,7 +96,7 @@ impl Port for EtherSeat<'_> {
             stamp,
             word: told,
         };
-        store::<Brand>(self.words, &mut self.seat, own, cell, call);
+        self.reach.store::<Brand>(own, cell, call);
         self.acts.note_said(f, slot, to, stamp, word);
     }
 
@@ -106,7 +108,7 @@ impl Port for EtherSeat<'_> {
             from,
             stamp,
         };
-        let cell = load::<Brand>(self.words, &mut self.seat, place, call);
+        let cell = self.reach.load::<Brand>(place, call);
         let word = take(cell, stamp);
         let heard = word;
         self.acts.note_heard(f, slot, from, stamp, heard);
@@ -116,7 +118,7 @@ impl Port for EtherSeat<'_> {
     fn enter(&mut self) {
         let next = self.acts.progress() + 1;
         let own = usize::from(self.unit.get());
-        store::<Brand>(self.words, &mut self.seat, own, next, Call::Enter);
+        self.reach.store::<Brand>(own, next, Call::Enter);
         self.acts.note_entered();
     }
 
@@ -124,17 +126,12 @@ impl Port for EtherSeat<'_> {
         self.acts.note_turned();
         let own = usize::from(self.unit.get());
         let number = self.acts.progress();
-        store::<Brand>(self.words, &mut self.seat, own, number, Call::Turn);
+        self.reach.store::<Brand>(own, number, Call::Turn);
     }
 
     fn stray(&mut self, to: UnitId, slot: usize, cell: u64) {
         let place = self.grid.place(self.unit, to, slot);
-        store::<Brand>(
-            self.words,
-            &mut self.seat,
-            place,
-            cell,
-            Call::Stray { to, slot },
-        );
+        self.reach
+            .store::<Brand>(place, cell, Call::Stray { to, slot });
     }
 }

@@ -1,10 +1,11 @@
 //! A unit's token, and the unit at its seat.
 ghost use Rattle.std.specs.Prelude.{◌≡◌, [], ◌∷◌};
 ghost use Rattle.sift_ether.specs.Deeds.{AreNoted};
-ghost use Rattle.sift_ether.specs.TableSeats.{chronicle_of, ranges_at, IsAtTable, IsOne};
+ghost use Rattle.sift_ether.specs.TableSeats.{chronicle_of};
 ghost use Rattle.sift_buffer.specs.Journals.{IsJournalOf};
 
-use crate::rule::{SharedWords, TableSeat};
+use crate::rule::TableSeat;
+use crate::steps::Reach;
 use sift_base::UnitId;
 use sift_buffer::{Acts, Grid};
 
@@ -25,15 +26,12 @@ pub struct Token {
 /// loads and one store. It waits for nobody, and takes no memory.
 #[derive(Drop)]
 pub struct EtherSeat<'a> {
-    pub(crate) words: &'a SharedWords,
+    pub(crate) reach: Reach<'a>,
     pub(crate) grid: Grid,
-    pub(crate) seat: TableSeat,
     pub(crate) unit: UnitId,
     pub(crate) acts: Acts,
-    ghost key: { words.now.key ≡ grid },
-    ghost table: { IsAtTable words.now.table_id words.now.key seat.table_id },
-    ghost one: { IsOne (ranges_at words.now.key) seat.me },
-    ghost unit_is: { (chronicle_of seat.me).unit ≡ unit },
+    ghost key: { reach.words.now.key ≡ grid },
+    ghost unit_is: { (chronicle_of reach.seat.me).unit ≡ unit },
     ghost owner: { IsJournalOf acts.pages grid.layout unit grid.frames },
-    ghost noted: { AreNoted acts (chronicle_of seat.me) },
+    ghost noted: { AreNoted acts (chronicle_of reach.seat.me) },
 }

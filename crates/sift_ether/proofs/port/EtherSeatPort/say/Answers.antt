@@ -1,13 +1,12 @@
 use Rattle.std.proofs.Common.{refl}
-use Rattle.sift_ether.specs.TableSeats.{ranges_at}
 use Rattle.sift_ether.proofs.Seats.{follows_one, one_step, view_more}
 use Rattle.sift_ether.proofs.port.EtherSeatPort.say.Goals as goal
 
 pub returns-clause-follows : goal.returns-clause-follows
-returns-clause-follows c = follows_one c.args.self.now _ _ _ refl refl refl c.store.ensures.table c.store.ensures.seat refl
+returns-clause-follows c = follows_one c.args.self.now _ _ _ c.store.ensures.words c.store.ensures.seat c.store.ensures.done refl refl refl
 
 pub returns-clause-said : goal.returns-clause-said
-returns-clause-said c = view_more c.args.self.now.seat.me _ (ranges_at c.args.self.now.words.now.key) _ c.store.ensures.seat
+returns-clause-said c = view_more c.args.self.now c.store.new.self _ c.store.ensures.words c.store.ensures.done
 
 pub returns-clause-steps : goal.returns-clause-steps
-returns-clause-steps c = one_step _ _ _ c.store.ensures.seat
+returns-clause-steps c = one_step _ _ _ c.store.ensures.done
