@@ -1,7 +1,8 @@
 """What came of a run, counted in its report."""
 from collections import namedtuple
 from functools import lru_cache
-from itertools import islice
+from itertools import compress, count, islice
+from operator import ne
 
 
 # What a run shows of one of its faults: whether its unit was due to say the slot in some configuration that it was in; the
@@ -51,7 +52,8 @@ def shown_of(flight, unit, begin):
 @lru_cache(maxsize=16384)
 def wrong_in(votes, ideal, compared):
     """The places, of those that are compared, of the output words that some unit votes other than the ideal machine has them."""
-    return tuple(place for place in compared if any(words[place] != ideal[place] for words in votes))
+    wrong = {place for words in votes for place in compress(count(), map(ne, words, ideal))}
+    return tuple([place for place in compared if place in wrong])
 
 
 def wrong_words(flight, schedule):
