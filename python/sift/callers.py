@@ -4,12 +4,13 @@ from __future__ import annotations
 import os
 import threading
 from collections import namedtuple
+from functools import lru_cache
 
 from sift import where
 
 TYPE_CHECKING = False  # as typing has it, which takes as long to load as a flight
 if TYPE_CHECKING:
-    from typing import Any, Dict, NamedTuple, Optional, Protocol, Sequence
+    from typing import Any, Dict, NamedTuple, Optional, Protocol, Sequence, Tuple
 else:
     Protocol = object
 
@@ -45,8 +46,11 @@ class Caller(Protocol):
         ...
 
 
-def lines_of(words: Sequence[str]) -> bytes:
-    """Command words as the library takes them, one a line."""
+@lru_cache(maxsize=64)  # a campaign asks the same two again and again
+def lines_of(words: Tuple[str, ...]) -> Optional[bytes]:
+    """Command words as the library takes them, one a line; None where one of them isn't one line."""
+    if any("\n" in word for word in words):
+        return None
     return "".join(f"{word}\n" for word in words).encode(errors="surrogateescape")
 
 
@@ -68,22 +72,25 @@ class Library:
         self._call.restype = ctypes.c_uint8
         self._lock = Library.locks.setdefault(self.path, threading.Lock())
         self._room: Any = ctypes.create_string_buffer(ROOM)
+        self._count = ctypes.c_size_t()
+        self._of_count = ctypes.byref(self._count)
+        self._text = ctypes.string_at
 
     def answer(self, words: Sequence[str], given: bytes = b"") -> Answer:
         """What the program answers. A room that is too small grows, and stays as large."""
-        import ctypes
-
-        if any("\n" in word for word in words):
+        asked = lines_of(tuple(words))
+        if asked is None:
             return Answer(2, b"usage\n")  # as the program answers; here its words are lines
-        asked, count = lines_of(words), ctypes.c_size_t()
         with self._lock:
             while True:
                 size = len(self._room)
-                status = self._call(asked, len(asked), given, len(given), self._room, size, ctypes.byref(count))
+                status = self._call(asked, len(asked), given, len(given), self._room, size, self._of_count)
                 if status != NO_ROOM:
                     break
-                self._room = ctypes.create_string_buffer(max(count.value, 2 * size))
-            text = ctypes.string_at(self._room, count.value)
+                import ctypes
+
+                self._room = ctypes.create_string_buffer(max(self._count.value, 2 * size))
+            text = self._text(self._room, self._count.value)
         if status == NO_MEMORY:
             raise MemoryError("memory is wanting for this answer")
         return Answer(status, text)

@@ -395,12 +395,18 @@ def ends(texts):
 @pytest.mark.parametrize("path", sorted((TOP / "missions").glob("*.report")), ids=lambda path: path.stem)
 def test_a_report_read_at_a_glance_tells_the_same(path):
     text = path.read_text()
-    whole, quick = read_report(text), read_quickly(text)
-    assert (quick.configurations(), len(quick.frames)) == (whole.configurations(), len(whole.frames))
-    for one, other in zip(quick.frames, whole.frames):
-        assert (one.configuration, one.votes, one.margin) == (other.configuration, other.votes, other.margin)
-        assert one.caught == other.caught and one.outputs == other.outputs and one.configurations == other.configurations
-        assert all(one.caught_by(unit) == other.caught_by(unit) for unit in range(8))
+    whole, quick = read_report(text), read_quickly(text.encode())
+    assert (quick.configurations(), quick.margin, quick.last) == (whole.configurations(), whole.margin, whole.last)
+    assert quick.end == text.splitlines()[-1]
+    for one, other in zip(quick.frames, whole.frames, strict=True):
+        assert (one.votes, one.outputs, one.configurations) == (other.votes, other.outputs, other.configurations)
+    for unit in range(8):
+        assert all(quick.first_catch(unit, begin) == whole.first_catch(unit, begin) for begin in range(len(whole.frames)))
+    # Held against the words of each unit in turn, some of which are other ones than those that are voted.
+    for unit in range(whole.units):
+        ideal = [frame.outputs[unit] or () for frame in whole.frames]
+        schedule = Schedule({"units": whole.units, **dict.fromkeys(("skew", "start")), "sensors": [], "tasks": [], "executors": {}}, ideal)
+        assert quick.other_votes(schedule) == whole.other_votes(schedule)
 
 
 def test_no_faults_have_no_text():

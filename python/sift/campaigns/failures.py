@@ -20,7 +20,7 @@ def losses_of(data, flyer, required):
     schedule = Schedule(outline_of(Mission(places.read(text)[1])), read_ideal(flyer.run(("ideal",), text)[1].decode()))
     flight = read_report(report.decode())
     harmed = is_broken(flight, schedule, required) if required else bool(wrong_words(flight, schedule))
-    return frozenset(([] if flight.frames[-1].margin else [MARGIN]) + ([OUTPUT] if harmed else []))
+    return frozenset(([] if flight.margin else [MARGIN]) + ([OUTPUT] if harmed else []))
 
 
 def is_broken(flight, schedule, required):

@@ -103,6 +103,13 @@ class Schedule:
         self.ideal = ideal
         self.due = [frozenset((words,)) for words in ideal]  # what is voted in each frame where all is right
         self.memory = {}  # who says a slot under a configuration, and the right words of a slot
+        self.texts = None
+
+    def due_texts(self):
+        """The same as a report's lines have it."""
+        if self.texts is None:
+            self.texts = [f" out={','.join([f'{word:04x}' for word in words]) or '-'} bad=" for words in self.ideal]
+        return self.texts
 
     def executors(self, size):
         """Of each task the positions that run it where a configuration has this size."""
@@ -206,6 +213,7 @@ class Faults:
         self.parts = [(unit,) for unit in units] if single else []
         self.parts += list(combinations(units, 2)) if pairs else []
         self.ends = list(accumulate(map(self.count, self.parts)))
+        self.fault = lru_cache(maxsize=4096)(self.fault)  # a fault comes in many pairs
 
     def __len__(self):
         return self.ends[-1] if self.ends else 0

@@ -28,7 +28,7 @@ class Run:
         self.faults = campaign.faults[number - 1]
         self.document = campaign.document(self.faults)
         self.flight = None
-        self.report = ""
+        self.report = b""
         self.verdict = "-"
 
     def begin(self, flyer):
@@ -41,20 +41,26 @@ class Run:
     def end(self, flyer, judged):
         """Waits for the report, and has it judged where that is wanted."""
         try:
-            report = flyer.end_flight(self.flight)
-            self.report = report.decode("ascii")
+            self.report = flyer.end_flight(self.flight)
             if judged:
-                self.verdict = flyer.judge(self.document, report)
-        except (NoFlight, UnicodeDecodeError, OSError) as fault:
+                self.verdict = flyer.judge(self.document, self.report)
+        except (NoFlight, OSError) as fault:
             raise self.no_row(fault) from None
+
+    def read(self):
+        """What the report tells, and its last line."""
+        if self.verdict == "yes":
+            flight = read_quickly(self.report)
+            return flight, flight.end
+        text = self.report.decode("ascii")
+        return read_report(text, blanked_stretch_of), text.rstrip("\n").rsplit("\n", 1)[-1]
 
     def row(self, campaign):
         """The row of the run, which has flown."""
         schedule = campaign.schedule
-        last = self.report.rstrip("\n").rsplit("\n", 1)[-1]
         try:
-            flight = read_quickly(self.report) if self.verdict == "yes" else read_report(self.report, blanked_stretch_of)
-        except NoReport as fault:
+            flight, last = self.read()
+        except (NoReport, UnicodeDecodeError) as fault:
             raise self.no_row(fault) from None
         outcome = outcome_of(self.faults, flight, last, schedule)
         findings = [requirement.find(flight, schedule) for requirement in campaign.required]

@@ -1,7 +1,8 @@
 """What came of a run, counted in its report."""
 from collections import namedtuple
 from functools import lru_cache
-from itertools import islice
+from itertools import compress, count, islice
+from operator import ne
 
 
 # What a run shows of one of its faults: whether its unit was due to say the slot in some configuration that it was in; the
@@ -30,40 +31,38 @@ def found_in(flight, asked):
 
 
 def configurations_told(flight):
-    """The configuration of each frame and after the last."""
-    return flight.configurations()
+    """The configuration of each frame and after the last, and each of them once, in the order in which they are told first."""
+    told = flight.configurations()
+    return told, list(dict.fromkeys(told))
 
 
 def units_told(flight, begin):
     """The configurations that are told from a frame on, each once."""
-    told = found_in(flight, (configurations_told,))
-    return frozenset(map(frozenset, set(told[begin : len(flight.frames)])))
+    told, _ = found_in(flight, (configurations_told,))
+    return frozenset(map(frozenset, set(told[begin:-1])))
 
 
 def shown_of(flight, unit, begin):
     """The first frame from one on in which a unit was caught, or None, those who did so, and the first frame that it is out in, or None."""
-    frames = flight.frames
-    caught = next((frame for frame in range(begin, len(frames)) if unit in frames[frame].caught), None)
-    by = tuple(frames[caught].caught_by(unit)) if caught is not None else ()
-    told = found_in(flight, (configurations_told,))
-    out = next((frame for frame, units in enumerate(told) if unit not in units), None)
-    return caught, by, out
+    told, each = found_in(flight, (configurations_told,))
+    without = next((units for units in each if unit not in units), None)
+    return *flight.first_catch(unit, begin), None if without is None else told.index(without)
 
 
 @lru_cache(maxsize=16384)
 def wrong_in(votes, ideal, compared):
     """The places, of those that are compared, of the output words that some unit votes other than the ideal machine has them."""
-    return tuple(place for place in compared if any(words[place] != ideal[place] for words in votes))
+    wrong = {place for words in votes for place in compress(count(), map(ne, words, ideal))}
+    return tuple([place for place in compared if place in wrong])
 
 
 def wrong_words(flight, schedule):
     """Of each frame in which output words are wrong their places."""
-    votes = [frame.votes for frame in flight.frames]
-    differ = [number for number, (told, due) in enumerate(zip(votes, schedule.due)) if told != due and told]
-    if not differ:
+    votes = flight.other_votes(schedule)
+    if not votes:
         return {}
-    compared = list(islice(schedule.compared(flight), differ[-1] + 1))
-    wrong = {number: wrong_in(votes[number], schedule.ideal[number], compared[number]) for number in differ}
+    compared = list(islice(schedule.compared(flight), max(votes) + 1))
+    wrong = {number: wrong_in(told, schedule.ideal[number], compared[number]) for number, told in votes.items()}
     return {number: places for number, places in wrong.items() if places}
 
 
@@ -77,4 +76,4 @@ def harm_of(flight, schedule):
 def outcome_of(faults, flight, last, schedule):
     """What came of the run with these faults."""
     traces = tuple([trace_of(fault, flight, schedule) for fault in faults])
-    return Outcome(traces, flight.frames[-1].margin, *found_in(flight, (harm_of, schedule)), last)
+    return Outcome(traces, flight.margin, *found_in(flight, (harm_of, schedule)), last)

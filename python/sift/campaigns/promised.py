@@ -18,7 +18,9 @@ class Promise(namedtuple("Promise", "item frame by")):
     """The item of the clause; the frame by which the unit is out, or in which it is caught; and who catches it for certain."""
 
     def __str__(self):
-        return {"out": f"out by {self.frame}", "caught": f"caught in {self.frame}", "own_words": "never"}.get(self.item, "-")
+        if self.item is None:
+            return "-"
+        return "never" if self.item == "own_words" else f"out by {self.frame}" if self.item == "out" else f"caught in {self.frame}"
 
 
 NOTHING = Promise(None, None, frozenset())

@@ -1,106 +1,98 @@
-"""Reads reports of a campaign that the program's judge took, so that their form is known. Most of what they say others said before,
-and of the rest most units say the same. What the clocks show is passed over; all else is told as by sift.reports.reading, which reads
-every other report."""
+"""Reads reports of a campaign that the program's judge took, so that their form is known: what is asked for is read where it lies, by a
+few searches of each frame. All is told as by sift.reports.reading, which reads every other report, but for what the clocks show."""
 import re
 from functools import lru_cache
 
-from sift.reports.reading import Flight, catches_of, frame_of, units_of, words_of
+from sift.reports.reading import Flight, blanked_stretch_of, catches_of, read_report, units_of, words_of
 
-SHORT = 32 * 1024  # letters of a report that is kept as a whole
-OUT = re.compile(r" out=(.+) bad=")
+SHORT = 32 * 1024  # bytes of a report that is kept as a whole
 CATCHING = re.compile(r" u=([0-7]) cfg=.* bad=([^-].*)")  # the line of a unit that caught some
-END = re.compile(r"end frames=[0-9]+ cfg=([0-7]+) margin=(?:ok|lost)\n")
-
-
-@lru_cache(maxsize=16384)
-def votes_of(out):
-    """The words that are voted where all units that work have the same."""
-    return frozenset((words_of(out),))
-
-
-NOBODY: "frozenset[int]" = frozenset()
 
 
 class QuickFlight(Flight):
-    """A flight of frames that are read so."""
-
-    def __init__(self, frames, last):
-        self.frames, self.last, self.memory = frames, last, {}
-
-
-class QuickFrame:
-    """What campaigns ask of a frame, read at a glance. What they rarely ask is read when it is asked for."""
-
-    __slots__ = ("text", "configuration", "votes", "margin", "told", "whole")
+    """A flight whose frames are looked at where they lie in its report."""
 
     def __init__(self, text):
-        self.text = text
-        self.told, self.whole = [], None  # the catches, None where they weren't asked for, and the frame as it is read as a whole
-        self.margin = text.endswith("=ok\n")
-        configuration, out = text.find(" cfg="), text.find(" out=")
-        if out < 0:
-            self.configuration, self.votes = None, frozenset()
-            return
-        self.configuration = units_of(text[configuration + 5 : text.index(" ", configuration + 5)])
-        bad = text.index(" bad=", out)
-        working = text.count(" cfg=")
-        if text.count(" bad=-\n") < working:
-            self.told = None
-        alike = text.count(text[out : bad + 5]) == working
-        self.votes = votes_of(text[out + 5 : bad]) if alike else frozenset(map(words_of, OUT.findall(text)))
+        # Each part has the lines of a frame, behind the margin of the one before and up to its own.
+        *self.parts, last, margin = text.split(" margin=")
+        before, _, end = last.partition("\nend ")
+        self.is_ok, self.last = before == "ok", units_of(end.rpartition("=")[2])
+        self.end = f"end {end} margin={margin[:-1]}"
+        self.working = [part.count(" cfg=") for part in self.parts]  # of each frame how many units tell one
+        self.memory = {}
 
     @property
-    def catches(self):
-        """Of each unit that caught some the units that it caught."""
-        if self.told is None:
-            self.told = [(int(unit), catches_of(bad)) for unit, bad in CATCHING.findall(self.text)]
-        return self.told
+    def margin(self):
+        return self.is_ok
 
     @property
-    def caught(self):
-        """The units that some unit caught."""
-        return NOBODY.union(*(caught for _, caught in self.catches)) if self.catches else NOBODY
+    def frames(self):
+        """The frames, for those who ask more of them."""
+        if "frames" not in self.memory:
+            last = "ok" if self.is_ok else "lost"
+            text = " margin=".join([*self.parts, f"{last}\n{self.end}\n"])
+            self.memory["frames"] = read_report(text, blanked_stretch_of).frames
+        return self.memory["frames"]
 
-    def caught_by(self, unit):
-        """The units that caught this one in the frame."""
-        return [by for by, caught in self.catches if unit in caught]
-
-    def read(self):
-        """The frame, read as a whole."""
-        if self.whole is None:
-            number = int(self.text[2 : self.text.index(" ")])
-            self.whole = frame_of(self.text, number, None)
-        return self.whole
-
-    @property
-    def outputs(self):
-        return self.read().outputs
-
-    @property
     def configurations(self):
-        return self.read().configurations
+        if 0 in self.working:
+            return super().configurations()
+        told = [part[(begin := part.index(" cfg=") + 5) : part.index(" ", begin)] for part in self.parts]
+        units = {text: units_of(text) for text in set(told)}
+        return [*map(units.get, told), self.last]
+
+    def other_votes(self, schedule):
+        parts = zip(self.parts, schedule.due_texts(), self.working)
+        return {number: votes_in(part) for number, (part, due, working) in enumerate(parts) if part.count(due) != working}
+
+    def first_catch(self, unit, begin):
+        for number in self.catching():
+            if number >= begin and unit in self.caught_in(number):
+                return number, tuple([int(by) for by, bad in CATCHING.findall(self.parts[number]) if unit in catches_of(bad)])
+        return None, ()
+
+    def catching(self):
+        """The frames in which some unit caught another one."""
+        if "catching" not in self.memory:
+            parts = zip(self.parts, self.working)
+            self.memory["catching"] = [number for number, (part, working) in enumerate(parts) if part.count(" bad=-\n") != working]
+        return self.memory["catching"]
+
+    def caught_in(self, number):
+        """The units that some unit caught in a frame."""
+        if number not in self.memory:
+            _, *ends = self.parts[number].split(" bad=")
+            self.memory[number] = caught_of(frozenset([end[: end.index("\n")] for end in ends]))
+        return self.memory[number]
 
 
-quick_frame = lru_cache(maxsize=16384)(QuickFrame)  # the same object for the same lines
+def votes_in(part):
+    """The words that are voted in the lines of a frame."""
+    _, *outs = part.split(" out=")
+    return votes_of(frozenset([out[: out.index(" ")] for out in outs]))
 
 
-@lru_cache(maxsize=256)
-def kept_flight(text):
-    """The flight of a report, the same for the same one: so what is asked of it is found once for all runs that it came of."""
-    return flight_of(text)
+@lru_cache(maxsize=16384)
+def votes_of(outs):
+    """The same of what units say that work."""
+    return frozenset(map(words_of, outs))
 
 
-def flight_of(text):
-    """The flight of a report, frame by frame."""
-    frames, place = [], 0
-    while text.startswith("f", place):
-        # A frame ends with the line that tells its margin: no other word has an m, and one letter is found soonest.
-        end = text.index("\n", text.index("m", place)) + 1
-        frames.append(quick_frame(text[place:end]))
-        place = end
-    return QuickFlight(frames, units_of(END.fullmatch(text, place)[1]))
+@lru_cache(maxsize=4096)
+def caught_of(bads):
+    """The units that are in some of these lists."""
+    return frozenset().union(*map(catches_of, bads))
 
 
-def read_quickly(text):
-    """The flight that a report tells which the judge took."""
-    return kept_flight(text) if len(text) < SHORT else flight_of(text)
+def flight_of(report):
+    """The flight of a report."""
+    return QuickFlight(report.decode("ascii"))
+
+
+# The same flight for the same report: so what is asked of it is found once for all runs that it came of.
+kept_flight = lru_cache(maxsize=256)(flight_of)
+
+
+def read_quickly(report):
+    """The flight that the bytes of a report tell which the judge took."""
+    return kept_flight(report) if len(report) < SHORT else flight_of(report)

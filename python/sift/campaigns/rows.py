@@ -21,16 +21,28 @@ def cell(value):
     return "-" if value is None else str(value)
 
 
+told_as = lru_cache(maxsize=4096)(str)  # a fault comes in many pairs
+
+
+@lru_cache(maxsize=4096)
+def cells_of(traces):
+    """What a row tells of the traces of its faults."""
+    told = (
+        ["said" if trace.said else "inert" for trace in traces],
+        [cell(trace.caught) for trace in traces],
+        [set_of(trace.by) for trace in traces],
+        [cell(trace.out) for trace in traces],
+    )
+    return tuple(["+".join(parts) or "-" for parts in told])
+
+
 def row_of(number, faults, outcome, verdict, promises, findings=()):
     """The row of a run. What is told of several faults stands side by side, with a + between."""
     traces = outcome.traces
     cells = (
         str(number),
-        " + ".join(map(str, faults)) or NO_FAULT,
-        "+".join("said" if trace.said else "inert" for trace in traces) or "-",
-        "+".join(cell(trace.caught) for trace in traces) or "-",
-        "+".join(set_of(trace.by) for trace in traces) or "-",
-        "+".join(cell(trace.out) for trace in traces) or "-",
+        " + ".join(map(told_as, faults)) or NO_FAULT,
+        *cells_of(traces),
         "ok" if outcome.margin else "lost",
         str(outcome.wrong),
         cell(outcome.first),

@@ -6,32 +6,33 @@ quoted = json.JSONEncoder(ensure_ascii=False).encode
 
 def value_of(value):
     """A value that stands in a line, as TOML writes it."""
-    if isinstance(value, list):
-        return "[" + ", ".join(map(value_of, value)) + "]"
     if isinstance(value, str):
         return quoted(value).replace("\x7f", "\\u007F")
+    if isinstance(value, list):
+        return "[" + ", ".join(map(value_of, value)) + "]"
     return str(value)
 
 
-def lines_of(table, path):
-    """The lines of a table below its header: its values, and then the tables in it."""
-    inner = {}
+def lines_of(table, path=""):
+    """The lines of a table below its header, whose name with a dot behind it begins the names of those in it: its values, and then
+    the tables in it."""
+    lines, inner = [], []
     for key, value in table.items():
-        if isinstance(value, dict) or isinstance(value, list) and value and isinstance(value[0], dict):
-            inner[key] = value
+        if isinstance(value, dict):
+            inner.append((f"[{path}{key}]", f"{path}{key}.", [value]))
+        elif isinstance(value, list) and value and isinstance(value[0], dict):
+            inner.append((f"[[{path}{key}]]", f"{path}{key}.", value))
         else:
-            yield f"{key} = {value_of(value)}"
-    for key, value in inner.items():
-        name = ".".join((*path, key))
-        for each in [value] if isinstance(value, dict) else value:
-            yield ""
-            yield f"[{name}]" if isinstance(value, dict) else f"[[{name}]]"
-            yield from lines_of(each, (*path, key))
+            lines.append(f"{key} = {value_of(value)}")
+    for header, name, tables in inner:
+        for each in tables:
+            lines += ("", header, *lines_of(each, name))
+    return lines
 
 
 def text_of(data):
     """The text of a document's values, with a blank line before each header."""
-    return "".join(line + "\n" for line in lines_of(data, ()))
+    return "".join([line + "\n" for line in lines_of(data)])
 
 
 def faults_text(faults):

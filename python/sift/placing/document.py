@@ -31,7 +31,7 @@ def entries_of(size, tables):
 def tables_text(tables):
     """The tables as TOML, as `plan` writes them."""
     return "".join(
-        "".join(line + "\n" for line in ["[[table]]", *lines_of(entries_of(size, tables), ("table",))]) for size in tables.rows
+        "".join(line + "\n" for line in ["[[table]]", *lines_of(entries_of(size, tables), "table.")]) for size in tables.rows
     )
 
 

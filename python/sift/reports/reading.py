@@ -103,6 +103,21 @@ class Flight:
             told.append(frame.configuration or told[-1])
         return told[::-1]
 
+    @property
+    def margin(self) -> bool:
+        """Whether the last frame has it."""
+        return self.frames[-1].margin
+
+    def other_votes(self, schedule: Any) -> Dict[int, FrozenSet[Tuple[int, ...]]]:
+        """Of the frames in which some unit votes other words than a schedule has due the words of each, by the frame's number."""
+        votes = [frame.votes for frame in self.frames]
+        return {number: told for number, (told, due) in enumerate(zip(votes, schedule.due)) if told != due and told}
+
+    def first_catch(self, unit: int, begin: int) -> Tuple[Optional[int], Tuple[int, ...]]:
+        """The first frame from one on in which a unit was caught, or None, and those who did so."""
+        caught = next((frame for frame in range(begin, len(self.frames)) if unit in self.frames[frame].caught), None)
+        return caught, tuple(self.frames[caught].caught_by(unit)) if caught is not None else ()
+
 
 @lru_cache(maxsize=256)
 def units_of(text):
