@@ -3,7 +3,7 @@ pub mod Laws
 pub mod Lawful
 pub mod Plan
 pub mod Relaying
-pub mod Worked
+pub mod Rows
 pub mod Stated
 pub mod Testing
 pub mod Text

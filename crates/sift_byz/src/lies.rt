@@ -13,7 +13,7 @@ ghost use Rattle.sift_byz.specs.Plan.{lie_of, most_traitors, most_units};
 ghost use Rattle.sift_byz.specs.Stated.{AreDifferent, AreReceivers, HasPath, HasReceivers, HasWord, IsPath, lie_in, lie_limit, lie_value, lies_of, path_of, to_of};
 ghost use Rattle.sift_byz.specs.Testing.{BreaksEntry, IsLimited, Keeps, MayBe, number_of};
 
-use crate::reading::{LONGEST_PATH, Lie, MOST_UNITS, digits_at, member_in};
+use crate::reading::{Lie, digits_at, member_in};
 use arrayvec::ArrayVec;
 use sift_base::{Stop, Word, is_ascending};
 use sift_document::{BrokenRule, broken, entries_between, member_of, table_of, word_value};
@@ -155,7 +155,7 @@ fn lie_in(entry: &Value, units: u8, m: u8) -> Option<Lie>
 }
 
 /// The path of an entry, in the order in which its units spoke.
-fn path_of(entry: &Value, units: u8, m: u8) -> Option<ArrayVec<u8, LONGEST_PATH>>
+fn path_of(entry: &Value, units: u8, m: u8) -> Option<ArrayVec<u8, 3>>
     requires { m ≤ most_traitors }
     ensures found { IfSome result (λ path. path_of (view entry.now) ≡ Some path.items) }
     ensures path { IfSome result (λ path. IsPath units m path.items) }
@@ -170,7 +170,7 @@ fn path_of(entry: &Value, units: u8, m: u8) -> Option<ArrayVec<u8, LONGEST_PATH>
 }
 
 /// The receivers of what an entry tells by a path.
-fn receivers_of(entry: &Value, units: u8, path: &[u8]) -> Option<ArrayVec<u8, MOST_UNITS>>
+fn receivers_of(entry: &Value, units: u8, path: &[u8]) -> Option<ArrayVec<u8, 10>>
     requires { units ≤ most_units }
     ensures found { IfSome result (λ to. to_of (view entry.now) ≡ Some to.items) }
     ensures receivers { IfSome result (λ to. AreReceivers units path.now to.items) }

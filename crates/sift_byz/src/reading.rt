@@ -7,8 +7,8 @@ ghost use Rattle.sift_document.specs.Document.{digit_to, digits_to, each_read};
 ghost use Rattle.std.specs.List.{All};
 ghost use Rattle.sift_base.specs.Stop.{IfRefused};
 ghost use Rattle.sift_document.specs.Testing.{OnlyRefuses, RefusesFirst, Tests, TestsEach};
-ghost use Rattle.sift_byz.specs.Lawful.{BreaksFew, IsByzPlanOf, IsRefusedWith, rules_for, rules_of};
-ghost use Rattle.sift_byz.specs.Plan.{IsInRange, ByzPlanData, TraitorsAreFew, lie_of, byz_plan_of, most_traitors, most_units};
+ghost use Rattle.sift_byz.specs.Lawful.{BreaksFew, IsPlanOf, IsRefusedWith, rules_for, rules_of};
+ghost use Rattle.sift_byz.specs.Plan.{IsInRange, PlanData, TraitorsAreFew, lie_of, plan_of, most_traitors, most_units};
 ghost use Rattle.sift_byz.specs.Testing.{MayBe};
 ghost use Rattle.sift_byz.specs.Stated.{IsPath, lie_in, lie_limit, lies_of, m_of, units_of, values_of};
 
@@ -59,22 +59,13 @@ fn digits_in<const N: usize>(text: &str) -> Option<ArrayVec<u8, N>>
 
 // ---- the plan
 
-/// The most units of a plan.
-pub(crate) const MOST_UNITS: usize = 10;
-
-/// The most traitors among them.
-const MOST_TRAITORS: usize = 2;
-
-/// The most units of a path: the first tells its value, and of the others each relays it in a round.
-pub(crate) const LONGEST_PATH: usize = 3;
-
 /// A lie: what the last unit of a path tells in place of what it heard by the path before it.
 #[derive(Drop)]
 pub struct Lie {
     /// The units that the word came through, in the order in which they told it.
-    pub path: ArrayVec<u8, LONGEST_PATH>,
+    pub path: ArrayVec<u8, 3>,
     /// The units that it is told to.
-    pub to: ArrayVec<u8, MOST_UNITS>,
+    pub to: ArrayVec<u8, 10>,
     /// The word that is told, or `None` where nothing is.
     pub value: Option<Word>,
 }
@@ -87,7 +78,7 @@ pub struct ByzPlan {
     /// How many of them may lie, at most 2. They relay in as many rounds.
     pub m: u8,
     /// Each unit's own value.
-    pub values: ArrayVec<Word, MOST_UNITS>,
+    pub values: ArrayVec<Word, 10>,
     /// The lies. Of those by one path to one unit the first is told.
     pub lies: Vec<Lie>,
 }
@@ -98,13 +89,13 @@ pub struct ByzPlan {
 ///
 /// The nine rules are tested in the order of their numbers, and each for the entries of `lie` in their order.
 pub fn read_byz(alloc: Global, document: &Table) -> Result<ByzPlan, Stop<BrokenRule>>
-    ensures accepted { IfOk result (λ plan. IsByzPlanOf (table_view document.now) (byz_plan_of plan)) }
-    ensures within { IfOk result (λ plan. IsInRange (byz_plan_of plan)) }
-    ensures few { IfOk result (λ plan. TraitorsAreFew (byz_plan_of plan)) }
+    ensures accepted { IfOk result (λ plan. IsPlanOf (table_view document.now) (plan_of plan)) }
+    ensures within { IfOk result (λ plan. IsInRange (plan_of plan)) }
+    ensures few { IfOk result (λ plan. TraitorsAreFew (plan_of plan)) }
     ensures refused { IfErr result (IfRefused (IsRefusedWith (table_view document.now))) }
 
     // A document that states a plan, or is owed a refusal, gets it, unless memory is wanting.
-    ensures complete { (plan : ByzPlanData) → IsByzPlanOf (table_view document.now) plan → IfErr result (λ why. why ≡ Stop.NoMemory) }
+    ensures complete { (plan : PlanData) → IsPlanOf (table_view document.now) plan → IfErr result (λ why. why ≡ Stop.NoMemory) }
     ensures exact { (owed : BrokenRule) → IsRefusedWith (table_view document.now) owed → OnlyRefuses owed result }
 {
     read_plan(alloc, document)
@@ -112,7 +103,7 @@ pub fn read_byz(alloc: Global, document: &Table) -> Result<ByzPlan, Stop<BrokenR
 
 /// The plan that a document states, or the first rule that it breaks.
 fn read_plan(alloc: Global, document: &Table) -> Result<ByzPlan, Stop<BrokenRule>>
-    ensures accepted { IfOk result (λ plan. IsByzPlanOf (table_view document.now) (byz_plan_of plan)) }
+    ensures accepted { IfOk result (λ plan. IsPlanOf (table_view document.now) (plan_of plan)) }
     ensures refused { IfErr result (RefusesFirst (rules_of (table_view document.now))) }
 {
     if !has_only_keys(document, &["units", "m", "values", "lie"]) {
@@ -175,7 +166,7 @@ fn units_of(document: &Table, m: u8) -> Option<u8>
 }
 
 /// The words of `values`, if there are as many as units.
-fn values_of(document: &Table, units: u8) -> Option<ArrayVec<Word, MOST_UNITS>>
+fn values_of(document: &Table, units: u8) -> Option<ArrayVec<Word, 10>>
     requires { units ≤ most_units }
     ensures { option_map (λ values. values.items) result ≡ values_of units (table_view document.now) }
 {
@@ -190,7 +181,7 @@ fn check_few(lies: &[Lie], units: u8, m: u8) -> Result<(), Stop<BrokenRule>>
     requires paths { All (λ lie. IsPath units m lie.path.items) lies.now }
     ensures { Tests 9 (BreaksFew units m (map lie_of lies.now)) result }
 {
-    let mut tellers = ArrayVec::<u8, MOST_TRAITORS>::new();
+    let mut tellers = ArrayVec::<u8, 2>::new();
     for (place, lie) in lies.iter().enumerate() {
         let last = lie.path[lie.path.len() - 1];
         if !tellers.contains(&last) {

@@ -85,17 +85,14 @@ fn sensor_name(alloc: Global, k: u32) -> Result<String, NoMemory>
     Ok(format!(in alloc; "s{k}")?)
 }
 
-/// How many words a sensor has.
-const WORDS_EACH: u32 = 16;
-
-/// The words of a sensor, drawn.
+/// Sixteen words, drawn.
 fn drawn_words(alloc: Global, draw: &mut Draw) -> Result<Vec<Value>, NoMemory>
     ensures made { IfOk result (λ words. map view words.items ≡ sensor_words draw.old) }
     ensures drawn { IfOk result (λ _. draw.new ≡ after draw.old words_each) }
 {
     let mut words = Vec::new(alloc);
-    for _ in 0..WORDS_EACH {
-        let word = draw.draw(u64::from(WORDS)) as u32;
+    for _ in 0..16u32 {
+        let word = draw.draw(65536) as u32;
         words.push(Value::from(word))?;
     }
     Ok(words)

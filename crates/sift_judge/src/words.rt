@@ -13,7 +13,7 @@ ghost use Rattle.sift_judge.specs.Clocks.{IsTrueSkew, clock_told, working_clocks
 use crate::form::{clock_told, figures_told, inputs_told, outputs_told};
 use crate::working::{agreed_told, config_told, working_at, working_in};
 use arrayvec::ArrayVec;
-use sift_base::{UNIT_LIMIT, UnitId, Word};
+use sift_base::{UnitId, Word};
 use sift_config::Config;
 use sift_mission::Mission;
 use sift_report::ReportLine;
@@ -183,12 +183,7 @@ fn has_skew_of(
 }
 
 /// The offsets of their clocks that these units tell, in ticks.
-fn clocks_of(
-    mission: &Mission,
-    lines: &[ReportLine],
-    f: u32,
-    units: &[UnitId],
-) -> ArrayVec<i64, UNIT_LIMIT>
+fn clocks_of(mission: &Mission, lines: &[ReportLine], f: u32, units: &[UnitId]) -> ArrayVec<i64, 8>
     requires frame { f < (data_of mission.now).frames }
     requires few { length units.now ≤ 8 }
     ensures { result.items ≡ map (clock_told (data_of mission.now) lines.now f) units.now }

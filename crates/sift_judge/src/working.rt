@@ -11,7 +11,7 @@ ghost use Rattle.sift_report.specs.Headline.{TellsSameConfiguration, TellsTrueMa
 
 use crate::form::{config_at, inputs_told, margin_at};
 use arrayvec::ArrayVec;
-use sift_base::{UNIT_LIMIT, UnitId, UnitSet, Word};
+use sift_base::{UnitId, UnitSet, Word};
 use sift_config::Config;
 use sift_mission::Mission;
 use sift_report::ReportLine;
@@ -19,7 +19,7 @@ use sift_report::ReportLine;
 // ---- who works and who leads
 
 /// The working units of a configuration, ascending.
-pub(crate) fn working_in(mission: &Mission, config: &Config, f: u32) -> ArrayVec<UnitId, UNIT_LIMIT>
+pub(crate) fn working_in(mission: &Mission, config: &Config, f: u32) -> ArrayVec<UnitId, 8>
     ensures { result.items ≡ filter (λ u. works_in (data_of mission.now) u f) config.now }
 {
     let mut working = ArrayVec::new();
@@ -33,7 +33,7 @@ pub(crate) fn working_in(mission: &Mission, config: &Config, f: u32) -> ArrayVec
 }
 
 /// The working units of the mission, ascending.
-pub(crate) fn working_at(mission: &Mission, f: u32) -> ArrayVec<UnitId, UNIT_LIMIT>
+pub(crate) fn working_at(mission: &Mission, f: u32) -> ArrayVec<UnitId, 8>
     ensures { result.items ≡ filter (λ u. works_in (data_of mission.now) u f) (first_units (data_of mission.now).units) }
 {
     working_in(mission, &mission.everyone(), f)

@@ -10,8 +10,8 @@ ghost use Rattle.sift_reply.specs.Duty.{GivesOne, HasOwnStatuses};
 
 use sift_base::{NoMemory, Stop};
 use sift_byz::{
-    byz_plans_are_accepted, exchange, loyal_values_are_kept, one_byz_plan, one_refusal, read_byz,
-    stated_byz_plans_are_lawful, vectors_are_equal, vectors_text,
+    exchange, loyal_values_are_kept, one_plan, one_refusal, plans_are_accepted, read_byz,
+    stated_plans_are_lawful, vectors_are_equal, vectors_text,
 };
 use sift_clocklab::{
     LabStop, drawn, drawn_runs_are_kept, drawn_runs_are_of_the_draws, lab_text,
@@ -189,8 +189,8 @@ pub fn clocks_have_own_statuses()
 pub fn byz_gives_one()
     ensures { (job : Byz) → GivesOne (byz_duty job) }
 {
-    one_byz_plan();
-    byz_plans_are_accepted();
+    one_plan();
+    plans_are_accepted();
     one_refusal();
 }
 
@@ -205,7 +205,7 @@ pub fn clocks_give_one()
 pub fn stated_plans_agree()
     ensures { StatedPlansAgree }
 {
-    stated_byz_plans_are_lawful();
+    stated_plans_are_lawful();
     vectors_are_equal();
     loyal_values_are_kept();
 }

@@ -12,7 +12,7 @@ use crate::number::{Item, read_digit, read_list};
 use crate::part::{ListPart, Part, field};
 use crate::print::{members_of, push_unit};
 use arrayvec::ArrayVec;
-use sift_base::{UNIT_LIMIT, UnitId, UnitSet};
+use sift_base::{UnitId, UnitSet};
 use sift_exec::{Catches, Kind, Kinds};
 use std::alloc::AllocError;
 
@@ -62,7 +62,7 @@ impl Part for Catches {
     ghost IsPart = { λ caught. IsBad (ByKind caught) };
 
     fn read(text: &str) -> Option<Catches> {
-        let listed: ArrayVec<Catch, UNIT_LIMIT> = read_list(text)?;
+        let listed: ArrayVec<Catch, 8> = read_list(text)?;
         let caught = caught_by(&listed);
         // Told again it has to be the same list: so no unit stands twice, or before one of a lower number.
         if are_catches_in(&listed, &caught) {
@@ -93,7 +93,7 @@ fn read_kinds(letters: &[u8]) -> Option<Kinds>
 }
 
 /// The units that were caught, in ascending order, and the ways in which.
-pub fn catches_in(caught: &Catches) -> ArrayVec<Catch, UNIT_LIMIT>
+pub fn catches_in(caught: &Catches) -> ArrayVec<Catch, 8>
     ensures { result.items ≡ catches_in caught.now }
 {
     let mut list = ArrayVec::new();

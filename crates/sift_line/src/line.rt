@@ -9,7 +9,7 @@ ghost use Rattle.sift_line.specs.Line.{IsLine};
 
 use crate::catch::Bad;
 use arrayvec::ArrayVec;
-use sift_base::{SENSOR_LIMIT, UnitId, Word};
+use sift_base::{UnitId, Word};
 use sift_config::Config;
 
 // ---- versions
@@ -34,7 +34,7 @@ pub enum ReportLine {
         u: UnitId,
         cfg: Config,
         clk: i64,
-        ins: ArrayVec<Word, SENSOR_LIMIT>,
+        ins: ArrayVec<Word, 8>,
         outs: ArrayVec<Word, 64>,
         bad: Bad,
     },

@@ -13,7 +13,7 @@ ghost use Rattle.sift_config.specs.Config.{IsConfig};
 
 use crate::part::ListPart;
 use arrayvec::ArrayVec;
-use sift_base::{UNIT_LIMIT, UnitId, UnitSet, Word};
+use sift_base::{UnitId, UnitSet, Word};
 use sift_config::Config;
 use std::alloc::AllocError;
 
@@ -192,7 +192,7 @@ pub fn read_digit(digit: u8) -> Option<UnitId>
 }
 
 /// The ascending units that are printed so, where there are some.
-fn read_units(text: &str) -> Option<ArrayVec<UnitId, UNIT_LIMIT>>
+fn read_units(text: &str) -> Option<ArrayVec<UnitId, 8>>
     ensures ascend { IfSome result (λ units. AscendFrom 0 units.items) }
     ensures printed { IfSome result (λ units. units_text units.items ≡ text.now) }
     ensures exact { (units : Items ℕ) → AscendFrom 0 units.items → units_text units.items ≡ text.now → result ≡ Some units }

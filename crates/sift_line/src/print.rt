@@ -12,7 +12,7 @@ use crate::catch::{Bad, catches_in};
 use crate::line::ReportLine;
 use crate::number::{Item, push_list};
 use arrayvec::ArrayVec;
-use sift_base::{UNIT_LIMIT, UnitId, UnitSet, Word};
+use sift_base::{UnitId, UnitSet, Word};
 use sift_config::Config;
 use std::alloc::AllocError;
 
@@ -159,7 +159,7 @@ fn push_caught(text: &mut String, bad: &Bad) -> Result<(), AllocError>
 }
 
 /// The members of a set, ascending.
-pub fn members_of(units: UnitSet) -> ArrayVec<UnitId, UNIT_LIMIT>
+pub fn members_of(units: UnitSet) -> ArrayVec<UnitId, 8>
     ensures { result.items ≡ members units }
 {
     let everyone = Config::all(8);

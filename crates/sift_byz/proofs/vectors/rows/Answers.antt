@@ -1,6 +1,6 @@
 use Rattle.std.proofs.Common.{refl}
-use Rattle.sift_byz.proofs.vectors.worked_vectors.Goals as goal
+use Rattle.sift_byz.proofs.vectors.rows.Goals as goal
 
--- each vector computes
+-- each row computes
 pub returns : goal.returns
 returns c = (refl, refl, refl, refl, refl)
