@@ -1,5 +1,4 @@
 """A campaign: its mission, its options, and so its runs by number. The same folder gives the same runs."""
-import json
 import math
 import os
 from functools import lru_cache
@@ -42,6 +41,8 @@ class Campaign:
 
     def kept(self):
         """What the kit has of these."""
+        import json  # which a campaign does without that begins
+
         return json.loads(read(self.path("campaign.json"))), read(self.path("mission.toml")), read(self.path("ideal.txt"))
 
     def path(self, name):

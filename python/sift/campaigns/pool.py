@@ -1,7 +1,6 @@
 """Processes of this machine that fly a campaign by the program's library, and start no program."""
 import ctypes
 import os
-import signal
 import struct
 import sys
 
@@ -49,6 +48,8 @@ class Pool:
 
     def end(self):
         """Ends its processes, where there are some."""
+        import signal  # which takes as long to load as a flight, and is wanted by none or by each process for itself
+
         for child in self.children:
             os.kill(child, signal.SIGKILL)
         self.statuses()
@@ -66,6 +67,8 @@ class Pool:
             return child
         status = 1
         try:
+            import signal
+
             signal.signal(signal.SIGINT, signal.SIG_DFL)
             ctypes.CDLL(None).prctl(DIE_WITH_PARENT, signal.SIGKILL)
             if os.getppid() == parent:

@@ -1,8 +1,6 @@
 """A campaign from its begin to its end: what tools/sweep does when it has read its words."""
 import contextlib
-import json
 import os
-import shutil
 import sys
 import time
 
@@ -13,7 +11,7 @@ from sift.campaigns.findings import plain
 from sift.campaigns.flights import flyer_of
 from sift.campaigns.flyer import DIVIDER, NoFlight
 from sift.campaigns.flying import flyer_for, library_of
-from sift.campaigns.kits import KEPT, can_fly, kit_of, kits_of, new_kit
+from sift.campaigns.kits import KEPT, can_fly, kit_of, kits_of, new_kit, tree_taken_away
 from sift.campaigns.promised import contradictions, promises_of
 from sift.campaigns.records import Reading, Records, written
 from sift.campaigns.rows import counted
@@ -55,21 +53,33 @@ def say(words):
 
 
 class Sources:
-    """Whether the built program is of the sources that stand here, which is found out while it flies."""
+    """Whether the built program is of the sources that stand here, which is found out while it flies: from all that they have only
+    where one of them, or the kit, was changed since it was noted what they are."""
+
+    FILES = ("crates.txt", "HANDLES", "crates")
 
     def __init__(self, program):
-        tool = os.path.join(where.TOP, "tools", "sources")
-        asked = where.IN_PLACE and program == where.BUILT and os.path.exists(tool) and shutil.which("rt")
-        self.program, self.asked = program, None
-        if asked:
-            import subprocess  # which an installation does without
-
-            self.asked = subprocess.Popen([tool], stdout=subprocess.PIPE, stdin=subprocess.DEVNULL, text=True)
+        self.tool, self.noted = os.path.join(where.TOP, "tools", "sources"), f"{program}.sources"
+        self.looking, self.found = None, None
+        kit = where.command("rt")
+        if where.IN_PLACE and program == where.BUILT and os.path.exists(self.tool) and kit:
+            kit = os.path.join(os.path.dirname(os.path.dirname(os.path.realpath(kit))), "KIT-ID")
+            places = [os.path.join(where.TOP, name) for name in self.FILES] + [kit]
+            words = ["find", *places, "-name", "out", "-prune", "-o", "-cnewer", self.noted, "-print", "-quit"]
+            self.found = os.memfd_create("found")
+            said = [(os.POSIX_SPAWN_DUP2, self.found, place) for place in (1, 2)]
+            self.looking = os.posix_spawnp("find", words, os.environ, file_actions=said)
 
     def tell(self):
         """Says so where it isn't."""
-        if self.asked and self.asked.communicate()[0] != "".join(lines_of(self.program + ".sources")):
+        if self.looking and (os.waitpid(self.looking, 0)[1] or os.fstat(self.found).st_size) and self.are_others():
             say("out/sift was built from other sources than those that stand here; tools/build builds it anew")
+
+    def are_others(self):
+        import subprocess  # which takes as long to load as some flights
+
+        told = subprocess.run([self.tool], stdout=subprocess.PIPE, stdin=subprocess.DEVNULL, text=True, check=False).stdout
+        return told != "".join(lines_of(self.noted))
 
 
 def lines_of(path):
@@ -148,7 +158,7 @@ def begin(options, kit, undo):
 def taken_away(path):
     """Takes a file or a folder of an older campaign away, where it is there."""
     if os.path.isdir(path):
-        shutil.rmtree(path)
+        tree_taken_away(path)
     elif os.path.lexists(path):
         os.remove(path)
 
@@ -180,19 +190,28 @@ def chosen_for(options, flyer, base, stated):
 
 def fill(kit, options, base, ideal, chosen):
     """Puts all that a kit has into it, and last what tells that it is whole."""
+    import json
+
     for name in MODULES:
         path = os.path.join(kit, "python", "sift", f"{name}.py")
         os.makedirs(os.path.dirname(path), exist_ok=True)
-        shutil.copy(os.path.join(where.PACKAGE, f"{name}.py"), path)
-    shutil.copy(os.path.join(where.PACKAGE, "campaigns", "job.py"), os.path.join(kit, "flights.py"))
+        copied(os.path.join(where.PACKAGE, f"{name}.py"), path)
+    copied(os.path.join(where.PACKAGE, "campaigns", "job.py"), os.path.join(kit, "flights.py"))
     if can_fly(options.program):
-        shutil.copy(options.program, os.path.join(kit, "sift"))
+        copied(options.program, os.path.join(kit, "sift"))
     library = library_of(options.program)
     if library:
-        shutil.copy(library, os.path.join(kit, "libsift.so"))
+        copied(library, os.path.join(kit, "libsift.so"))
     written(os.path.join(kit, "mission.toml"), base)
     written(os.path.join(kit, "ideal.txt"), ideal)
     written(os.path.join(kit, "campaign.json"), json.dumps(chosen) + "\n")
+
+
+def copied(path, to):
+    """Copies a file, with its mode."""
+    with open(path, "rb") as file, open(to, "wb") as copy:
+        copy.write(file.read())
+    os.chmod(to, os.stat(path).st_mode & 0o7777)
 
 
 def time_of(flyer, document):
@@ -241,7 +260,7 @@ def fly(records, options, engine, pool, reading):
         pool = pool or pool_of(records, flyer_of(records.campaign), options, records.left())
         return f"its processes ended with status {pool.fly(progress)}"
     if not engine:
-        if not shutil.which("parallel"):
+        if not where.command("parallel"):
             raise Stopped(INSTALL)
         if options.sshlogin and os.path.realpath(records.folder) == os.path.realpath(os.path.expanduser("~")):
             raise Stopped("with other machines --out can't be the home folder, where their kits lie", 2)
@@ -395,7 +414,8 @@ def hand_on(records, summary, options):
 
 def is_full(folder):
     """Whether the disk of a folder has no room for the rows of a job."""
-    return shutil.disk_usage(folder).free < ROOM
+    room = os.statvfs(folder)
+    return room.f_bavail * room.f_frsize < ROOM
 
 
 # One row of a campaign.
