@@ -10,7 +10,7 @@ from sift.documents.printing import faults_text
 from sift.reports.reading import read_ideal
 
 LONGEST = 4.0  # seconds of a batch, by the time that the mission took without faults
-PARTS = 64  # batches for each processor where no program is started for one, so that all processors end together
+PARTS = 256  # batches for each processor where no program is started for one, so that all processors end together
 
 
 def read(path):
