@@ -2,7 +2,7 @@
 from __future__ import annotations
 
 import os
-import threading
+from _thread import LockType, allocate_lock  # as threading has them, which takes as long to load as a flight
 from collections import namedtuple
 from functools import lru_cache
 
@@ -57,7 +57,7 @@ def lines_of(words: Tuple[str, ...]) -> Optional[bytes]:
 class Library:
     """`sift_call` of a shared library, in this process. Where several threads ask, one call waits for another."""
 
-    locks: Dict[str, threading.Lock] = {}  # one for each library that is loaded, however often
+    locks: Dict[str, LockType] = {}  # one for each library that is loaded, however often
 
     def __init__(self, path: str) -> None:
         import ctypes  # which takes as long to load as a flight
@@ -70,7 +70,7 @@ class Library:
         bytes_and_length = [ctypes.c_char_p, ctypes.c_size_t]
         self._call.argtypes = [*bytes_and_length, *bytes_and_length, ctypes.c_void_p, ctypes.c_size_t, ctypes.POINTER(ctypes.c_size_t)]
         self._call.restype = ctypes.c_uint8
-        self._lock = Library.locks.setdefault(self.path, threading.Lock())
+        self._lock = Library.locks.setdefault(self.path, allocate_lock())
         self._room: Any = ctypes.create_string_buffer(ROOM)
         self._count = ctypes.c_size_t()
         self._of_count = ctypes.byref(self._count)

@@ -1,7 +1,6 @@
 """Where the program, its library and its pages are: in a clone, below share/sift where tools/install put them, or in the package
 itself where pip did."""
 import os
-import shutil
 
 PACKAGE = os.path.dirname(os.path.realpath(__file__))
 TOP = os.path.dirname(os.path.dirname(PACKAGE))
@@ -17,7 +16,14 @@ def program():
     named = os.environ.get("SIFT_PROGRAM")
     if named or IN_PLACE or os.access(BUILT, os.X_OK):
         return named or BUILT
-    return shutil.which("sift") or BUILT
+    return command("sift") or BUILT
+
+
+def command(name):
+    """The path of a command that is installed, or None. It is what shutil has, which takes as long to load as some flights."""
+    folders = os.environ.get("PATH", os.defpath).split(os.pathsep)
+    paths = [os.path.join(folder or os.curdir, name) for folder in folders]
+    return next((path for path in paths if os.path.isfile(path) and os.access(path, os.X_OK)), None)
 
 
 def library():

@@ -1,5 +1,4 @@
 """A campaign: its mission, its options, and so its runs by number. The same folder gives the same runs."""
-import json
 import math
 import os
 from functools import lru_cache
@@ -11,7 +10,7 @@ from sift.documents.printing import faults_text
 from sift.reports.reading import read_ideal
 
 LONGEST = 4.0  # seconds of a batch, by the time that the mission took without faults
-PARTS = 64  # batches for each processor where no program is started for one, so that all processors end together
+PARTS = 256  # batches for each processor where no program is started for one, so that all processors end together
 
 
 def read(path):
@@ -21,15 +20,17 @@ def read(path):
 
 
 class Campaign:
-    """What a kit tells: the folder with the document without faults, the ideal words, the options, the program and these tools."""
+    """What a kit tells: the folder with the document without faults, the ideal words, the options, the program and these tools.
 
-    def __init__(self, kit):
+    Before these are in the folder, a campaign that begins tells them: the options, the document and the text of the ideal words.
+    """
+
+    def __init__(self, kit, stated=None):
         self.kit = kit
         self.program = self.path("sift")
         self.library = self.path("libsift.so")  # where the kit has one, its jobs fly by it and start no program
-        self.options = json.loads(read(self.path("campaign.json")))
-        self.base = read(self.path("mission.toml"))
-        self.schedule = Schedule(self.options["outline"], read_ideal(read(self.path("ideal.txt"))))
+        self.options, self.base, ideal = stated or self.kept()
+        self.schedule = Schedule(self.options["outline"], read_ideal(ideal))
         self.own = self.options.get("keep", [])  # the mission's own faults that are flown in each run
         self.own_text = faults_text(self.own)
         self.text_of = lru_cache(maxsize=4096)(self.text_of)  # a fault comes in many pairs
@@ -37,6 +38,12 @@ class Campaign:
         self.faults = self.drawn() if self.is_random() else self.listed()
         count, limit = len(self.faults), self.options["limit"]
         self.chosen = range(1, count + 1) if limit is None or limit >= count else Spread(count, limit)
+
+    def kept(self):
+        """What the kit has of these."""
+        import json  # which a campaign does without that begins
+
+        return json.loads(read(self.path("campaign.json"))), read(self.path("mission.toml")), read(self.path("ideal.txt"))
 
     def path(self, name):
         return os.path.join(self.kit, name)

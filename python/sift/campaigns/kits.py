@@ -1,8 +1,6 @@
 """The kit of a campaign: a folder in its folder, with the mission, the program and the tools as they were when it began."""
 import contextlib
-import glob
 import os
-import shutil
 
 LOGS = ("jobs.log", "jobs.txt")  # the engine's log, and what the jobs wrote
 KEPT = (*LOGS, "runs.tsv", "slurm", "smallest.toml")  # what a campaign keeps beside its kit
@@ -21,7 +19,7 @@ def new_kit(folder, undo):
         path = os.path.join(folder, name)
         if not os.path.exists(path):
             undo.callback(taken_away, os.remove, path)
-    undo.callback(shutil.rmtree, kit, ignore_errors=True)
+    undo.callback(tree_taken_away, kit)
     os.makedirs(kit)
     return kit
 
@@ -32,9 +30,18 @@ def taken_away(remove, path):
         remove(path)
 
 
+def tree_taken_away(folder):
+    """Takes away a folder with all that it has, where it is there."""
+    import shutil  # which a campaign does without that begins
+
+    shutil.rmtree(folder, ignore_errors=True)
+
+
 def kits_of(folder):
     """The kits of a campaign's folder, of which there is one where a campaign has begun in it."""
-    return [os.path.dirname(begun) for begun in glob.glob(os.path.join(glob.escape(folder), KIT + "*", "campaign.json"))]
+    names = os.listdir(folder) if os.path.isdir(folder) else []
+    kits = [os.path.join(folder, name) for name in names if name.startswith(KIT)]
+    return [kit for kit in kits if os.path.exists(os.path.join(kit, "campaign.json"))]
 
 
 def kit_of(folder):

@@ -1,13 +1,11 @@
 """Processes of this machine that fly a campaign by the program's library, and start no program."""
 import ctypes
 import os
-import signal
 import struct
 import sys
 
 from sift.campaigns.flights import NoRow, batches_text
 from sift.campaigns.journal import append
-from sift.campaigns.library import LibraryFlyer
 
 SHARE = struct.Struct("=qq")  # how a share stands in a pipe: the place of its first batch among those to be flown, and how many
 AHEAD = 2  # shares of each process that are given out, so that none waits for its next one
@@ -15,35 +13,53 @@ DIE_WITH_PARENT = 1  # PR_SET_PDEATHSIG
 
 
 class Pool:
-    """So many processes. Each takes shares of batches from one pipe, writes their rows to the campaign's file, and tells by another."""
+    """So many processes. Each takes shares of batches from one pipe, writes their rows to a file, and tells by another pipe.
 
-    def __init__(self, records, processes):
-        self.campaign = records.campaign
-        self.output = records.path("jobs.txt")
-        self.processes = processes
+    They begin to fly at once, and to write where `fly` is called: by then the campaign has all that its folder is to have.
+    """
 
-    def fly(self, batches, progress=lambda done, of: None):
-        """Flies batches, and tells 0, or 1 where a batch wasn't flown to its end."""
-        flyer = LibraryFlyer(self.campaign.library)  # once for all processes, which share its memory
+    def __init__(self, campaign, flyer, output, batches, processes):
+        self.campaign, self.output = campaign, output
+        self.batches = batches
         wanted, given = os.pipe()
         done, told = os.pipe()
-        append(self.output, "\n")  # behind what may be cut off
-        children = []
+        closed, self.closes = os.pipe()  # what is read from it comes to its end when rows may be written
+        self.hands = Hands(len(batches), min(processes, len(batches)), given, done)
+        self.children = []
         try:
-            for _ in range(min(self.processes, len(batches))):
-                children.append(self.started(flyer, batches, wanted, told, (given, done)))
-            os.close(wanted)
-            os.close(told)
-            count = hand_out(len(batches), len(children), given, done, progress)
+            for _ in range(self.hands.processes):
+                self.children.append(self.started(flyer, wanted, told, closed, (given, done, self.closes)))
         except BaseException:
-            for child in children:
-                os.kill(child, signal.SIGKILL)
+            self.end()
             raise
-        finally:
-            statuses = [os.waitpid(child, 0)[1] for child in children]
-        return 0 if count == len(batches) and not any(statuses) else 1
+        for file in (wanted, told, closed):
+            os.close(file)
 
-    def started(self, flyer, batches, wanted, told, others):
+    def fly(self, progress=lambda done, of: None):
+        """Has the batches flown, and tells 0, or 1 where one of them wasn't flown to its end."""
+        append(self.output, "\n")  # behind what may be cut off
+        os.close(self.closes)
+        try:
+            count = self.hands.give_all(progress)
+        except BaseException:
+            self.end()
+            raise
+        return 0 if not any(self.statuses()) and count == len(self.batches) else 1
+
+    def end(self):
+        """Ends its processes, where there are some."""
+        import signal  # which takes as long to load as a flight, and is wanted by none or by each process for itself
+
+        for child in self.children:
+            os.kill(child, signal.SIGKILL)
+        self.statuses()
+
+    def statuses(self):
+        """The statuses of the processes, which are waited for."""
+        children, self.children = self.children, []
+        return [os.waitpid(child, 0)[1] for child in children]
+
+    def started(self, flyer, wanted, told, closed, others):
         """A process that flies what it is given until there is no more."""
         parent = os.getpid()
         child = os.fork()
@@ -51,24 +67,28 @@ class Pool:
             return child
         status = 1
         try:
+            import signal
+
             signal.signal(signal.SIGINT, signal.SIG_DFL)
             ctypes.CDLL(None).prctl(DIE_WITH_PARENT, signal.SIGKILL)
             if os.getppid() == parent:
                 for file in others:
                     os.close(file)
-                status = self.work(flyer, batches, wanted, told)
+                status = self.work(flyer, wanted, told, closed)
         except OSError as fault:
             print(f"sweep: {fault.strerror}", file=sys.stderr, flush=True)
         finally:
             os._exit(status)
 
-    def work(self, flyer, batches, wanted, told):
+    def work(self, flyer, wanted, told, closed):
         """Flies share after share; the status."""
         status = 0
         while share := os.read(wanted, SHARE.size):
             begin, count = SHARE.unpack(share)
             try:
-                append(self.output, batches_text(self.campaign, flyer, batches[begin : begin + count]))
+                text = batches_text(self.campaign, flyer, self.batches[begin : begin + count])
+                os.read(closed, 1)
+                append(self.output, text)
                 os.write(told, share)
             except NoRow as fault:
                 print(fault, file=sys.stderr, flush=True)
@@ -77,35 +97,41 @@ class Pool:
         return status
 
 
-def hand_out(batches, processes, given, done, progress):
-    """Gives so many batches out, and tells how many were flown to their end.
+class Hands:
+    """Gives batches out to so many processes.
 
     Shares are large at first and small at the end, so that all processes end together. A process that ends before its time leaves
     its share to be flown later, and the others go on.
     """
-    begin, flown, is_open = 0, 0, True
 
-    def give():
+    def __init__(self, batches, processes, given, done):
+        self.batches, self.processes = batches, processes
+        self.given, self.done = given, done
+        self.begin = 0  # of the next share
+        for _ in range(AHEAD * processes):
+            self.give()
+
+    def give(self):
         """Gives one more share, if any is left."""
-        nonlocal begin
-        count = min(max(1, (batches - begin) // (2 * processes)), batches - begin)
+        count = min(max(1, (self.batches - self.begin) // (2 * self.processes)), self.batches - self.begin)
         if count:
-            os.write(given, SHARE.pack(begin, count))
-            begin += count
+            os.write(self.given, SHARE.pack(self.begin, count))
+            self.begin += count
         return count > 0
 
-    try:
-        for _ in range(AHEAD * processes):
-            give()
-        while told := os.read(done, SHARE.size):
-            flown += SHARE.unpack(told)[1]
-            if is_open and not give():
-                os.close(given)  # behind the last one: then the processes end
-                is_open = False
-            progress(flown, batches)
-    except BrokenPipeError:
-        pass  # no process is left
-    if is_open:
-        os.close(given)
-    os.close(done)
-    return flown
+    def give_all(self, progress):
+        """Gives out the rest, and tells how many batches were flown to their end."""
+        flown, is_open = 0, True
+        try:
+            while told := os.read(self.done, SHARE.size):
+                flown += SHARE.unpack(told)[1]
+                if is_open and not self.give():
+                    os.close(self.given)  # behind the last one: then the processes end
+                    is_open = False
+                progress(flown, self.batches)
+        except BrokenPipeError:
+            pass  # no process is left
+        if is_open:
+            os.close(self.given)
+        os.close(self.done)
+        return flown

@@ -30,9 +30,9 @@ def written_by(path, parts):
 class Records:
     """What is kept of a campaign that has begun in a folder."""
 
-    def __init__(self, folder):
+    def __init__(self, folder, campaign=None):
         self.folder = os.path.abspath(folder)
-        self.campaign = Campaign(kit_of(self.folder))
+        self.campaign = campaign or Campaign(kit_of(self.folder))
 
     def path(self, name):
         return os.path.join(self.folder, name)
@@ -92,7 +92,7 @@ class Reading:
 
     def __init__(self, records, read):
         self.records, self.read = records, read
-        self.known, self.here = set(), 0  # the batches that were read, and up to where in this machine's file
+        self.known, self.here = {}, 0  # the batches that were read, with their places, and up to where in this machine's file
 
     def go_on(self):
         """Reads what this machine has flown since."""
@@ -107,3 +107,10 @@ class Reading:
         for line in self.records.rows({number: place for number, place in flown.items() if number not in self.known and number in batches}):
             self.read(Row(line.rstrip("\n")))
         self.known.update(flown)
+
+    def flown(self):
+        """Of each batch that was flown to its end the place of its rows, when all of them were read."""
+        batches = self.records.campaign.batches()
+        if len(self.known) < len(batches) or not all(number in self.known for number in batches):
+            self.rows_of(self.records.flown())
+        return {number: place for number, place in self.known.items() if number in batches}

@@ -1,18 +1,17 @@
 """A campaign from its begin to its end: what tools/sweep does when it has read its words."""
 import contextlib
-import json
 import os
-import shutil
 import sys
 import time
 
 from sift import where
+from sift.campaigns.campaign import Campaign
 from sift.campaigns.faults import outline_of
 from sift.campaigns.findings import plain
 from sift.campaigns.flights import flyer_of
 from sift.campaigns.flyer import DIVIDER, NoFlight
 from sift.campaigns.flying import flyer_for, library_of
-from sift.campaigns.kits import KEPT, can_fly, kit_of, kits_of, new_kit
+from sift.campaigns.kits import KEPT, can_fly, kit_of, kits_of, new_kit, tree_taken_away
 from sift.campaigns.promised import contradictions, promises_of
 from sift.campaigns.records import Reading, Records, written
 from sift.campaigns.rows import counted
@@ -54,21 +53,33 @@ def say(words):
 
 
 class Sources:
-    """Whether the built program is of the sources that stand here, which is found out while it flies."""
+    """Whether the built program is of the sources that stand here, which is found out while it flies: from all that they have only
+    where one of them, or the kit, was changed since it was noted what they are."""
+
+    FILES = ("crates.txt", "HANDLES", "crates")
 
     def __init__(self, program):
-        tool = os.path.join(where.TOP, "tools", "sources")
-        asked = where.IN_PLACE and program == where.BUILT and os.path.exists(tool) and shutil.which("rt")
-        self.program, self.asked = program, None
-        if asked:
-            import subprocess  # which an installation does without
-
-            self.asked = subprocess.Popen([tool], stdout=subprocess.PIPE, stdin=subprocess.DEVNULL, text=True)
+        self.tool, self.noted = os.path.join(where.TOP, "tools", "sources"), f"{program}.sources"
+        self.looking, self.found = None, None
+        kit = where.command("rt")
+        if where.IN_PLACE and program == where.BUILT and os.path.exists(self.tool) and kit:
+            kit = os.path.join(os.path.dirname(os.path.dirname(os.path.realpath(kit))), "KIT-ID")
+            places = [os.path.join(where.TOP, name) for name in self.FILES] + [kit]
+            words = ["find", *places, "-name", "out", "-prune", "-o", "-cnewer", self.noted, "-print", "-quit"]
+            self.found = os.memfd_create("found")
+            said = [(os.POSIX_SPAWN_DUP2, self.found, place) for place in (1, 2)]
+            self.looking = os.posix_spawnp("find", words, os.environ, file_actions=said)
 
     def tell(self):
         """Says so where it isn't."""
-        if self.asked and self.asked.communicate()[0] != "".join(lines_of(self.program + ".sources")):
+        if self.looking and (os.waitpid(self.looking, 0)[1] or os.fstat(self.found).st_size) and self.are_others():
             say("out/sift was built from other sources than those that stand here; tools/build builds it anew")
+
+    def are_others(self):
+        import subprocess  # which takes as long to load as some flights
+
+        told = subprocess.run([self.tool], stdout=subprocess.PIPE, stdin=subprocess.DEVNULL, text=True, check=False).stdout
+        return told != "".join(lines_of(self.noted))
 
 
 def lines_of(path):
@@ -118,7 +129,8 @@ def requirements_of(options, outline):
 
 def begin(options, kit, undo):
     """Makes the folder of a new campaign with its kit, unless it is there, and flies the mission once without faults where jobs are
-    to start the program. It tells how many faults of the mission's own are left out."""
+    to start the program. It tells how many faults of the mission's own are left out, the records, and the processes of this machine
+    that fly it already, or None."""
     root, mission = mission_of(options)
     own, outline = kept_faults(options, root, mission), outline_of(mission)
     required = requirements_of(options, outline)
@@ -129,41 +141,34 @@ def begin(options, kit, undo):
         raise Stopped(f"{options.out} has a campaign: {ways}", 2)
     # Where the engine has begun already, what lies in the folder is its own: there was no campaign.
     older = [*kits_of(options.out), *(os.path.join(options.out, name) for name in KEPT)] if options.overwrite and not kit else []
-    fill(kit or new_kit(options.out, undo), options, without_faults(root), {"outline": outline, "keep": own, "required": required})
+    kit, base = kit or new_kit(options.out, undo), without_faults(root)
+    flyer = flyer_for(options.program)
+    chosen, ideal = chosen_for(options, flyer, base, {"outline": outline, "keep": own, "required": required})
+    records = Records(options.out, Campaign(kit, (chosen, base, ideal)))
+    pool = pool_of(records, flyer, options, records.campaign.batches()) if chosen["here"] else None
+    if pool:
+        undo.callback(pool.end)
+    fill(kit, options, base, ideal, chosen)
     undo.pop_all()
     for path in older:
         taken_away(path)
-    return 0 if options.keep else len(mission.faults)
+    return 0 if options.keep else len(mission.faults), records, pool
 
 
 def taken_away(path):
     """Takes a file or a folder of an older campaign away, where it is there."""
     if os.path.isdir(path):
-        shutil.rmtree(path)
+        tree_taken_away(path)
     elif os.path.lexists(path):
         os.remove(path)
 
 
-def fill(kit, options, base, stated):
-    """Puts all that a kit has into it."""
-    for name in MODULES:
-        path = os.path.join(kit, "python", "sift", f"{name}.py")
-        os.makedirs(os.path.dirname(path), exist_ok=True)
-        shutil.copy(os.path.join(where.PACKAGE, f"{name}.py"), path)
-    shutil.copy(os.path.join(where.PACKAGE, "campaigns", "job.py"), os.path.join(kit, "flights.py"))
-    if can_fly(options.program):
-        shutil.copy(options.program, os.path.join(kit, "sift"))
-    library = library_of(options.program)
-    if library:
-        shutil.copy(library, os.path.join(kit, "libsift.so"))
-    written(os.path.join(kit, "mission.toml"), base)
-
-    flyer = flyer_for(options.program)
+def chosen_for(options, flyer, base, stated):
+    """What a kit keeps of a campaign's options and of what is stated beside them, and the text of the ideal machine's words."""
     status, ideal = flyer.run(["ideal"], base.encode())
     if status:
         raise Stopped(f"{options.program} ends with status {status} where it is to tell the ideal words")
-    written(os.path.join(kit, "ideal.txt"), ideal.decode())
-    here = bool(library) and flies_here(options)
+    here = bool(library_of(options.program)) and flies_here(options)
     chosen = {
         "mission": os.path.basename(options.mission),
         "kinds": options.kinds or list(KINDS),
@@ -180,7 +185,33 @@ def fill(kit, options, base, stated):
         "processors": os.cpu_count() or 1,
         **stated,
     }
+    return chosen, ideal.decode()
+
+
+def fill(kit, options, base, ideal, chosen):
+    """Puts all that a kit has into it, and last what tells that it is whole."""
+    import json
+
+    for name in MODULES:
+        path = os.path.join(kit, "python", "sift", f"{name}.py")
+        os.makedirs(os.path.dirname(path), exist_ok=True)
+        copied(os.path.join(where.PACKAGE, f"{name}.py"), path)
+    copied(os.path.join(where.PACKAGE, "campaigns", "job.py"), os.path.join(kit, "flights.py"))
+    if can_fly(options.program):
+        copied(options.program, os.path.join(kit, "sift"))
+    library = library_of(options.program)
+    if library:
+        copied(library, os.path.join(kit, "libsift.so"))
+    written(os.path.join(kit, "mission.toml"), base)
+    written(os.path.join(kit, "ideal.txt"), ideal)
     written(os.path.join(kit, "campaign.json"), json.dumps(chosen) + "\n")
+
+
+def copied(path, to):
+    """Copies a file, with its mode."""
+    with open(path, "rb") as file, open(to, "wb") as copy:
+        copy.write(file.read())
+    os.chmod(to, os.stat(path).st_mode & 0o7777)
 
 
 def time_of(flyer, document):
@@ -212,22 +243,24 @@ def told(campaign):
 # Runs are flown in this machine's processes by the library, else as jobs of GNU parallel, or of Slurm.
 
 
-def fly(records, options, engine, reading):
+def fly(records, options, engine, pool, reading):
     """Flies all batches that aren't there yet, and tells why some may be missing. Rows are read meanwhile where processes of this
-    tool fly."""
+    tool fly, which may have begun."""
     bar = Bar() if sys.stderr.isatty() else ignored
     if options.slurm:
         compile_kit(records.campaign.kit)
         return fly_by_slurm(records, options, bar)
-    if records.campaign.has_library() and not engine and flies_here(options):
+    if pool or records.campaign.has_library() and not engine and flies_here(options):
 
         def progress(done, of):
             bar(done, of)
             reading.go_on()
 
-        return fly_here(records, int(options.jobs or os.cpu_count() or 1), progress)
+        # Where they go on, by the library that the kit has.
+        pool = pool or pool_of(records, flyer_of(records.campaign), options, records.left())
+        return f"its processes ended with status {pool.fly(progress)}"
     if not engine:
-        if not shutil.which("parallel"):
+        if not where.command("parallel"):
             raise Stopped(INSTALL)
         if options.sshlogin and os.path.realpath(records.folder) == os.path.realpath(os.path.expanduser("~")):
             raise Stopped("with other machines --out can't be the home folder, where their kits lie", 2)
@@ -257,11 +290,11 @@ def compile_kit(kit):
             py_compile.compile(path, compiled, doraise=True, invalidation_mode=py_compile.PycInvalidationMode.CHECKED_HASH)
 
 
-def fly_here(records, processes, progress):
-    """Flies them by the library."""
+def pool_of(records, flyer, options, batches):
+    """The processes of this machine that fly batches, which they begin at once."""
     from sift.campaigns.pool import Pool
 
-    return f"its processes ended with status {Pool(records, processes).fly(records.left(), progress)}"
+    return Pool(records.campaign, flyer, records.path("jobs.txt"), batches, int(options.jobs or os.cpu_count() or 1))
 
 
 def fly_by_slurm(records, options, progress):
@@ -300,14 +333,13 @@ class Bar:
 
 def end(records, why, begun, options, tally):
     """Writes the table of what was flown, and tells the tool's status."""
-    flown = records.flown()
+    flown = tally.reading.flown()
     if len(flown) < len(records.campaign.batches()):
         runs = f"{sum(place.rows for place in flown.values()):,} of {counted(len(records.campaign.numbers()), 'run', 'runs')}"
         import tempfile
 
         full = next(filter(is_full, (records.folder, tempfile.gettempdir())), None)
         raise Stopped(f"{runs} were flown, and {f'the disk of {full} is full' if full else why}; --resume goes on")
-    tally.reading.rows_of(flown)
     records.table(flown)
     summary, failing = tally.summary, tally.failing
     failing.tell()
@@ -382,7 +414,8 @@ def hand_on(records, summary, options):
 
 def is_full(folder):
     """Whether the disk of a folder has no room for the rows of a job."""
-    return shutil.disk_usage(folder).free < ROOM
+    room = os.statvfs(folder)
+    return room.f_bavail * room.f_frsize < ROOM
 
 
 # One row of a campaign.
@@ -467,20 +500,21 @@ def conduct(options, kit, engine, undo):
     if options.compare:
         return compare(options.compare)
     sources = Sources(options.program if options.mission else None)
+    records, pool = None, None
     if options.mission is not None:
-        left_out = begin(options, kit, undo)
+        left_out, records, pool = begin(options, kit, undo)
         if left_out:
             say(f"the mission's own {'fault is' if left_out == 1 else f'{left_out} faults are'} left out")
     if not kit_of(options.out):
         raise Stopped(f"{options.out} has no campaign", 2)
-    records = Records(options.out)
+    records = records or Records(options.out)
     if options.replay or options.reduce:
         return replay(records.campaign, options.replay) if options.replay else reduce(records.campaign, options.reduce)
     say(told(records.campaign))
     if records.campaign.schedule.sheds():
         say("words of a task that a table sheds, and of those that read it, aren't compared from the first such frame on")
     tally = Tally(records)
-    why = fly(records, options, engine, tally.reading)
+    why = fly(records, options, engine, pool, tally.reading)
     sources.tell()
     return end(records, why, begun, options, tally)
 

@@ -1,7 +1,8 @@
 """Prints documents: the one place where the tools write TOML."""
-import json
-
-quoted = json.JSONEncoder(ensure_ascii=False).encode
+try:
+    from _json import encode_basestring as quoted  # what json writes a text by, which takes as long to load as a flight
+except ImportError:
+    from json.encoder import encode_basestring as quoted
 
 
 def value_of(value):

@@ -36,13 +36,12 @@ The folder gets runs.tsv, a row a run; standard output a summary, the worst firs
 Status 0; 1 where a unit that goes wrong alone lost the margin or an output, a report wasn't judged right, a run isn't as
 promised, or something got worse; 2 for other words, or a mission or a file that is refused; 9 where something can't be written; 125 where not all was flown.
 """
-import argparse
 import contextlib
 import gc
 import os
 import re
-import shutil
 import sys
+from types import SimpleNamespace
 
 from sift import where
 from sift.campaigns.flying import library_of
@@ -55,10 +54,14 @@ from sift.files import as_called, run
 STORM = "storm"  # a kind that is drawn alone: what a stray unit stores can't be listed
 
 
+class NotRight(Exception):
+    """What is wrong with a value."""
+
+
 def kinds_of(text):
     kinds = text.split(",")
     if not set(kinds) <= {*ALL_KINDS, STORM}:
-        raise argparse.ArgumentTypeError(f"{text}: the kinds are {', '.join(ALL_KINDS)}")
+        raise NotRight(f"{text}: the kinds are {', '.join(ALL_KINDS)}")
     return [kind for kind in (*ALL_KINDS, STORM) if kind in kinds]
 
 
@@ -68,7 +71,7 @@ def values_of(text):
     for part in text.split(","):
         found = re.fullmatch("(-?[0-9]{1,5})(?:-([0-9]{1,5}))?", part)
         if not found or int(found[1]) > int(found[2] or found[1]):
-            raise argparse.ArgumentTypeError(f"{text}: values are listed as in 7,-3 or 0-15")
+            raise NotRight(f"{text}: values are listed as in 7,-3 or 0-15")
         values += range(int(found[1]), int(found[2] or found[1]) + 1)
     return list(dict.fromkeys(values))
 
@@ -79,73 +82,118 @@ def frames_of(text):
     for part in text.split(","):
         found = re.fullmatch("([0-9]+)(?:-([0-9]+))?", part)
         if not found or int(found[1]) > int(found[2] or found[1]):
-            raise argparse.ArgumentTypeError(f"{text}: frames are listed as in 0,10 or 0-49")
+            raise NotRight(f"{text}: frames are listed as in 0,10 or 0-49")
         frames |= set(range(int(found[1]), int(found[2] or found[1]) + 1))
     return sorted(frames)
 
 
 def positive(text):
     if not text.isdecimal() or int(text) == 0:
-        raise argparse.ArgumentTypeError(f"{text}: a whole number from 1 on")
+        raise NotRight(f"{text}: a whole number from 1 on")
     return int(text)
 
 
 def whole(text):
     if not text.isdecimal() or len(text) > 18:
-        raise argparse.ArgumentTypeError(f"{text}: a whole number of at most 18 digits")
+        raise NotRight(f"{text}: a whole number of at most 18 digits")
     return int(text)
 
 
-class Words(argparse.ArgumentParser):
-    """The command line; what it doesn't know gets the usage."""
-
-    def format_help(self):
-        return as_called(__doc__.lstrip())
-
-    def error(self, message):
-        usage = __doc__[__doc__.index("usage:") :].split("\n\n", 1)[0]
-        print(f"{as_called(usage)}\nsweep: {message}", file=sys.stderr)
-        sys.exit(2)
+# What stands behind each option, and what the option is where it isn't given.
+OPTIONS = {
+    "--single": {"action": "store_true"},
+    "--pairs": {"action": "store_true"},
+    "--kinds": {"type": kinds_of},
+    "--values": {"type": values_of},
+    "--from": {"type": frames_of, "default": [0], "dest": "moments"},
+    "--limit": {"type": positive},
+    "--keep": {"action": "store_true"},
+    "--random": {"type": positive},
+    "--number": {"type": whole},
+    "--require": {},
+    "--out": {"default": "sweep"},
+    "--overwrite": {"action": "store_true"},
+    "--batch": {"type": positive},
+    "--jobs": {},
+    "--sshlogin": {"action": "append", "default": []},
+    "--slurm": {"action": "store_true"},
+    "--program": {"default": where.program()},
+    "--resume": {"action": "store_true"},
+    "--replay": {"type": positive},
+    "--reduce": {"type": positive},
+    "--compare": {"nargs": 2},
+    "--json": {},
+    "--junit": {},
+}
 
 
 def parser_of():
+    import argparse  # which words do without that are right
+
+    class Words(argparse.ArgumentParser):
+        """The command line; what it doesn't know gets the usage."""
+
+        def format_help(self):
+            return as_called(__doc__.lstrip())
+
+        def error(self, message):
+            usage = __doc__[__doc__.index("usage:") :].split("\n\n", 1)[0]
+            print(f"{as_called(usage)}\nsweep: {message}", file=sys.stderr)
+            sys.exit(2)
+
+    def told(read):
+        """Reads a value as argparse is told of one that isn't right."""
+
+        def reading(text):
+            try:
+                return read(text)
+            except NotRight as why:
+                raise argparse.ArgumentTypeError(str(why)) from None
+
+        return reading
+
     parser = Words(allow_abbrev=False)
     parser.add_argument("mission", nargs="?")
-    parser.add_argument("--single", action="store_true")
-    parser.add_argument("--pairs", action="store_true")
-    parser.add_argument("--kinds", type=kinds_of)
-    parser.add_argument("--values", type=values_of)
-    parser.add_argument("--from", type=frames_of, default=[0], dest="moments")
-    parser.add_argument("--limit", type=positive)
-    parser.add_argument("--keep", action="store_true")
-    parser.add_argument("--random", type=positive)
-    parser.add_argument("--number", type=whole)
-    parser.add_argument("--require")
-    parser.add_argument("--out", default="sweep")
-    parser.add_argument("--overwrite", action="store_true")
-    parser.add_argument("--batch", type=positive)
-    parser.add_argument("--jobs")
-    parser.add_argument("--sshlogin", action="append", default=[])
-    parser.add_argument("--slurm", action="store_true")
-    parser.add_argument("--program", default=where.program())
-    parser.add_argument("--resume", action="store_true")
-    parser.add_argument("--replay", type=positive)
-    parser.add_argument("--reduce", type=positive)
-    parser.add_argument("--compare", nargs=2)
-    parser.add_argument("--json")
-    parser.add_argument("--junit")
-    parser.set_defaults(document=None)  # the bytes of the mission, where it isn't in a file
+    for name, how in OPTIONS.items():
+        parser.add_argument(name, **{**how, "type": told(how["type"])} if "type" in how else how)
     return parser
 
 
 def options_of(words):
-    parser = parser_of()
-    options = parser.parse_args(joined(words))
+    words = joined(words)
+    options = plain_options(words) or parser_of().parse_args(words)
+    options.document = None  # the bytes of the mission, where it isn't in a file
     fault = next(faults_in(options), None)
     if fault:
-        parser.error(fault)
+        parser_of().error(fault)
     options.number = options.number or 0
     return options
+
+
+def plain_options(words):
+    """The options of plain words, which are most of them, sooner than by argparse: each option stands alone, and its value behind it.
+    None where argparse is to tell what the words are, or what is wrong with them."""
+    dests = {name: how.get("dest", name[2:]) for name, how in OPTIONS.items()}
+    found = {dests[name]: how.get("default", False if how.get("action") == "store_true" else None) for name, how in OPTIONS.items()}
+    found["mission"] = None
+    words = iter(words)
+    for word in words:
+        how = OPTIONS.get(word)
+        if how is None and (word.startswith("-") or found["mission"] is not None):
+            return None
+        if how is None:
+            found["mission"] = word
+        elif how.get("action") == "store_true":
+            found[dests[word]] = True
+        else:
+            value = next(words, "-")
+            if value.startswith("-") or "action" in how or "nargs" in how:
+                return None
+            try:
+                found[dests[word]] = how.get("type", str)(value)
+            except NotRight:
+                return None
+    return SimpleNamespace(**found)
 
 
 def joined(words):
@@ -203,7 +251,7 @@ def early(options, undo):
     begins = options.mission is not None and can_fly(options.program) and not kit_of(options.out)
     logged = os.path.exists(os.path.join(options.out, "jobs.log"))
     others = options.sshlogin or options.slurm or library_of(options.program)
-    if not begins or logged or others or sys.stderr.isatty() or not shutil.which("parallel"):
+    if not begins or logged or others or sys.stderr.isatty() or not where.command("parallel"):
         return None, None
     from sift.campaigns.engine import Engine  # subprocess, which the library does without
 
