@@ -1,3 +1,4 @@
 pub mod Given
 pub mod Order
+pub mod Strays
 pub mod laws

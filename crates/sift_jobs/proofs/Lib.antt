@@ -2,4 +2,5 @@ pub mod Alike
 pub mod Existing
 pub mod Planned
 pub mod Reported
+pub mod StatedFault
 pub mod Statuses

@@ -6,3 +6,4 @@ pub mod Unflown
 pub mod Gen
 pub mod Trial
 pub mod Existence
+pub mod StatedFault

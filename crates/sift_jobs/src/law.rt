@@ -5,6 +5,7 @@ ghost use Rattle.sift_jobs.specs.Unflown.{IdealGives, CheckGives};
 ghost use Rattle.sift_jobs.specs.Existence.{MissionsHaveFlights, TrialsAreThere, VotesAreThere};
 ghost use Rattle.sift_jobs.specs.Flights.{AreCalm};
 ghost use Rattle.sift_jobs.specs.Gen.{gen_duty};
+ghost use Rattle.sift_jobs.specs.StatedFault.{FaultIsStated};
 ghost use Rattle.sift_jobs.specs.Run.{RunIsHeadlined, RunGives, RunTellsCaught};
 ghost use Rattle.sift_jobs.specs.Plan.{PlanNumbers, PlanGives, plan_statuses};
 ghost use Rattle.sift_jobs.specs.Trial.{trial_duty};
@@ -32,7 +33,10 @@ use sift_mission::fitting_parts_make_a_flight;
 use sift_planner::{one_plan_each, one_size_without_room};
 use sift_program::sound_programs_have_shapes;
 use sift_reply::NoWork;
-use sift_report::{alike_flights_have_one_text, caught_is_printed, the_headline_is_printed};
+use sift_report::{
+    alike_flights_have_one_text, caught_is_printed, fault_is_within_the_headline,
+    the_headline_is_printed,
+};
 use sift_scenario::{one_mission, stated_missions_fit};
 use sift_trial::{drawn_missions_have_no_storms, drawn_trees_are_missions};
 
@@ -175,4 +179,13 @@ pub fn missions_have_flights<F: Flier>()
     each_mission_has_a_round_flight();
     stated_missions_fit();
     drawn_trees_are_missions();
+}
+
+/// The document of two catchers states the mission in which a unit fails within the margin, so each flight of what it states
+/// tells of that.
+pub fn fault_is_stated()
+    ensures { FaultIsStated }
+{
+    fault_is_within_the_headline();
+    one_mission();
 }

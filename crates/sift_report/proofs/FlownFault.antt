@@ -1,5 +1,5 @@
 -- What the report of each flight of the mission with two catchers tells of its fault.
-use Rattle.std.proofs.Common.{◌≡◌, ℕ, zero, suc, ◌<◌, ◌≤◌, List, [], ◌∷◌, Bool, slice_index, true, false, not, None, Some, refl, sym, ap, ◌∙◌, arith}
+use Rattle.std.proofs.Common.{◌≡◌, ℕ, zero, suc, ◌<◌, List, [], ◌∷◌, Bool, slice_index, true, false, not, None, Some, refl, sym, ap, ◌∙◌, arith}
 use Rattle.std.specs.List.{filter}
 use Rattle.std.specs.Prelude.{option_map, unwrap_or}
 use Rattle.std.proofs.lemmas.Bool.{true≢false}
@@ -9,7 +9,7 @@ use Rattle.sift_base.specs.laws.Ranges.{range-low}
 use Rattle.sift_exec.specs.declared.catches.Kind.TheVariants.{Poll}
 use Rattle.sift_flight.specs.Alike.{RoundFlightsAreAlike}
 use Rattle.sift_flight.specs.Existence.{EachMissionHasARoundFlight}
-use Rattle.sift_flight.specs.Flight.{Flight, HasNoStorms, Strays, IsRound, no_strays}
+use Rattle.sift_flight.specs.Flight.{HasNoStorms, no_strays}
 use Rattle.sift_line.specs.declared.line.ReportLine.{ReportLine}
 use Rattle.sift_mission.specs.Flown.{flown, table_for}
 use Rattle.sift_mission.specs.PartsFit.{PartsFit}
@@ -17,7 +17,7 @@ use Rattle.sift_mission.specs.Premises.{PartsMakeItFlyable}
 use Rattle.sift_program.specs.Ideal.{ideal_frame}
 use Rattle.sift_report.specs.Caught.{LiesTold, ReportCaught, TellsCaught}
 use Rattle.sift_report.specs.Headline.{FrameHeadline, ReportHeadline, TellsSameConfiguration}
-use Rattle.sift_report.specs.OneText.{AlikeFlightsHaveOneText, HaveOneText}
+use Rattle.sift_report.specs.OneText.{AlikeFlightsHaveOneText}
 use Rattle.sift_report.specs.Printed.{CaughtIsPrinted, HeadlineIsPrinted}
 use Rattle.sift_report.specs.Sheet.{sheet_of}
 use Rattle.sift_report.specs.Told.{HasMarginTold, IsSoundTold, IsWorking, agreed_told, config_told, shed_told, told_at}
