@@ -73,7 +73,7 @@ module _ {B : Type 0} (allows : B → Carriage → B → Type 0) where
     pub count : length buses ≡ layout.units
     pub boarded : AreBoarded m e faulty tokens buses xs
     pub flew : AllZip Flew xs ys
-    pub drives : All (λ y. Drives m y.board (seat_view y)) ys
+    pub drives : All (λ y. Drives m y.seat.board (seat_view y)) ys
     pub down : All (λ y. m.frames * m.period ≤ (seat_view y).conduct.progress) ys
     pub left : AllZip (λ y t. IsTokenBack y.port.port t) ys back
 
@@ -141,8 +141,8 @@ module _ {B : Type 0} (allows : B → Carriage → B → Type 0) where
           (side_at Flew xs ys u x y have.flew (omega (arith, long_xs, low))))
 
       -- the board that the unit left drives on its port
-      pub drives : Drives m y.board (seat_view y)
-      drives = subst (λ (z : Boarded B). Drives m z.board (seat_view z)) y_is (have.drives u y (omega (arith, long_ys, low)))
+      pub drives : Drives m y.seat.board (seat_view y)
+      drives = subst (λ (z : Boarded B). Drives m z.seat.board (seat_view z)) y_is (have.drives u y (omega (arith, long_ys, low)))
 
       -- the unit has come to the end of the last frame
       pub down : m.frames * m.period ≤ (seat_view y).conduct.progress
@@ -168,7 +168,7 @@ module _ {B : Type 0} (allows : B → Carriage → B → Type 0) where
       conduct_is = get_or-map conduct_of back u r fresh (omega (arith, long_back, low))
           ∙ (ap conduct_of (r_is r) ∙ ap (λ (v : View). v.conduct) home.view)
 
-      pub board_unit : y.board.unit ≡ u
+      pub board_unit : y.seat.board.unit ≡ u
       board_unit = sym drives.unit ∙ (ap (λ (v : View). v.unit) (sym home.view) ∙ (r.unit_is ∙ (home.unit ∙ unit_of)))
 
       -- what came over its buses
@@ -185,7 +185,7 @@ module _ {B : Type 0} (allows : B → Carriage → B → Type 0) where
     }
 
     module _ (fl : TheFlight) (comes : TokensComeBack) (law : DownLaw) (landed : HaveLanded layout m.frames back fl.journals.items)
-        (accounts : fl.accounts.items ≡ map (λ z. z.board.accounts) ys) (units : m.units ≡ first_units layout.units) where
+        (accounts : fl.accounts.items ≡ map (λ z. z.seat.board.accounts) ys) (units : m.units ≡ first_units layout.units) where
       below : (u : ℕ) → has m.units u ≡ true → u < layout.units
       below u there = unit_low layout.units u (rw (← units) there)
 
@@ -197,22 +197,22 @@ module _ {B : Type 0} (allows : B → Carriage → B → Type 0) where
         z = y comes u low
 
         -- the accounts of the unit
-        accounts_are : accounts_of fl u ≡ (desk_of z.board).accounts
+        accounts_are : accounts_of fl u ≡ (desk_of z.seat.board).accounts
         accounts_are =
             ap (λ lists. slice_index_or (map (λ (list : Vec TheAccount Global). map account_of list.items) lists) u []) accounts
-            ∙ (get_or-map (λ (list : Vec TheAccount Global). map account_of list.items) (map (λ (w : Boarded B). w.board.accounts) ys) u z.board.accounts []
-            (omega (arith, length-map ys (λ (w : Boarded B). w.board.accounts), long_ys, low))
+            ∙ (get_or-map (λ (list : Vec TheAccount Global). map account_of list.items) (map (λ (w : Boarded B). w.seat.board.accounts) ys) u z.seat.board.accounts []
+            (omega (arith, length-map ys (λ (w : Boarded B). w.seat.board.accounts), long_ys, low))
             ∙ ap (λ (list : Vec TheAccount Global). map account_of list.items)
-            (get_or-map (λ (w : Boarded B). w.board.accounts) ys u z z.board.accounts (omega (arith, long_ys, low))
-            ∙ ap (λ (w : Boarded B). w.board.accounts) (y_is comes u low)))
+            (get_or-map (λ (w : Boarded B). w.seat.board.accounts) ys u z z.seat.board.accounts (omega (arith, long_ys, low))
+            ∙ ap (λ (w : Boarded B). w.seat.board.accounts) (y_is comes u low)))
 
-        flown_all : HasFlownAll m z.board (seat_view z)
-        flown_all = law m z.board (seat_view z) (drives comes u low) (down comes u low)
+        flown_all : HasFlownAll m z.seat.board (seat_view z)
+        flown_all = law m z.seat.board (seat_view z) (drives comes u low) (down comes u low)
 
         -- its board has kept to its conduct
         kept_at_seat : BoardKeeps m u (seat_view z).conduct ((told m fl).account u) m.frames
         kept_at_seat = subst (λ (v : ℕ). BoardKeeps m v (seat_view z).conduct ((told m fl).account u) m.frames) (board_unit comes u low)
-            (subst (λ (list : List Account). BoardKeeps m z.board.unit (seat_view z).conduct (λ f. slice_index_or list f no_account) m.frames)
+            (subst (λ (list : List Account). BoardKeeps m z.seat.board.unit (seat_view z).conduct (λ f. slice_index_or list f no_account) m.frames)
             (sym accounts_are) (flown_all.kept no_account))
 
         words_at_seat : HasWordsOf (seat_view z).conduct (journal_of fl u)
@@ -285,7 +285,7 @@ module _ {B : Type 0} (allows : B → Carriage → B → Type 0) where
   pub all_told : (d : MissionData) (e : Ether) (faulty : ℕ) (tokens : List Token) (buses : List B) (xs ys : List (Boarded B)) (back : List Token)
       (fl : TheFlight) (logs : List BusLog) → PartsFit d → Fits (flown d) → HasNoStorms (flown d) →
       HaveFlown (flown d) e d.layout faulty tokens buses xs ys back → HaveLanded d.layout d.frames back fl.journals.items →
-      fl.accounts.items ≡ map (λ z. z.board.accounts) ys → logs ≡ map (λ z. z.port.log) ys →
+      fl.accounts.items ≡ map (λ z. z.seat.board.accounts) ys → logs ≡ map (λ z. z.port.log) ys →
       TokensComeBack → DownLaw → FlightsThatComeHomeAreRound → LogsTellWhatWasHeard allows →
       IsToldWhole d faulty buses fl logs
   all_told d e faulty tokens buses xs ys back fl logs fit fits calm have landed accounts are comes law round tell = record {

@@ -76,7 +76,7 @@ module _ {B : Type 0} (m : FlownMission) (e : Ether) (faulty : ℕ) where
   boarded_at (s ∷ ss) (c ∷ cs) (y ∷ ys) (suc i) t b x all low = boarded_at ss cs ys i t b x all.1 (omega arith)
 
   -- each of them may step
-  pub boarded_drive : (ts : List Token) (bs : List B) (xs : List (Boarded B)) → AreBoarded m e faulty ts bs xs → All (λ x. Drives m x.board (seat_view x)) xs
+  pub boarded_drive : (ts : List Token) (bs : List B) (xs : List (Boarded B)) → AreBoarded m e faulty ts bs xs → All (λ x. Drives m x.seat.board (seat_view x)) xs
   boarded_drive [] [] [] all k d low = absurd (omega arith)
   boarded_drive [] [] (x ∷ xs) all k d low = absurd all
   boarded_drive [] (b ∷ bs) xs all k d low = absurd all

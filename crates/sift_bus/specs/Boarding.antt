@@ -1,4 +1,4 @@
--- Units at their seats, each with its board and with three buses before its port.
+-- Units at their seats, each with three buses before its port.
 use Rattle.std.specs.Prelude.{◌≡◌, ℕ, List, [], ◌∷◌, ⊤}
 use Rattle.sift_base.specs.declared.slots.Layout.{Layout}
 use Rattle.sift_buffer.specs.Tables.{ranges_of}
@@ -37,7 +37,7 @@ pub record IsNewToken (e : Ether) (u : ℕ) (t : Token) : Type 0 where
 
 -- the token's unit sits at the ether with a board that may step, and nothing came over its buses yet, of which the faulty one is this
 pub record IsBoarded {B : Type 0} (m : FlownMission) (e : Ether) (faulty : ℕ) (t : Token) (bus : B) (x : Boarded B) : Type 0 where
-  pub drives : Drives m x.board (seat_view x)
+  pub drives : Drives m x.seat.board (seat_view x)
   pub seat : IsSeatOf e t x.port.port
   pub link : link_of view_of x.port ≡ first_link t.unit faulty bus (blank_log e.grid.layout e.grid.frames)
 

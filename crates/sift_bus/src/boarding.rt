@@ -15,11 +15,12 @@ use sift_bus_port::{Bus, BusLog, BusPort};
 use sift_conduct::Account;
 use sift_ether::{Ether, EtherSeat, Token};
 use sift_mission::{Mission, a_mission_fits};
-use sift_unit::{Board, new_boards_may_step};
+use sift_seat::Seat;
+use sift_unit::new_boards_may_step;
 use std::alloc::Global;
 use std::vec::IntoIter;
 
-/// A unit takes its seat, with its board, and with three buses before its port.
+/// A unit takes its seat, with three buses before its port.
 fn board_unit<'a, B: Bus>(
     alloc: Global,
     mission: &Mission,
@@ -39,9 +40,9 @@ fn board_unit<'a, B: Bus>(
     new_boards_may_step();
     let parts = mission.parts();
     let log = BusLog::make(alloc, parts.layout, parts.frames)?;
-    let board = Board::make(alloc, mission, unit)?;
+    let seat = Seat::make(alloc, mission, unit)?;
     let port = BusPort::over(ether.seat(token), unit, faulty, bus, log);
-    Ok(Flyer { board, port })
+    Ok(Flyer { seat, port })
 }
 
 /// The next of tokens, of which there is one.
@@ -89,7 +90,7 @@ pub(crate) fn leave_all<B: Bus>(
     flyers: Vec<Flyer<BusPort<EtherSeat<'_>, B>>>,
 ) -> Result<(Vec<Token>, Vec<Vec<Account>>, Vec<BusLog>), NoMemory>
     ensures tokens { IfOk result (λ left. AllZip (λ flyer token. IsTokenBack flyer.port.port token) flyers.entry.items left.0.items) }
-    ensures accounts { IfOk result (λ left. left.1.items ≡ map (λ flyer. flyer.board.accounts) flyers.entry.items) }
+    ensures accounts { IfOk result (λ left. left.1.items ≡ map (λ flyer. flyer.seat.board.accounts) flyers.entry.items) }
     ensures logs { IfOk result (λ left. left.2.items ≡ map (λ flyer. flyer.port.log) flyers.entry.items) }
 {
     let units = flyers.len();
@@ -97,10 +98,10 @@ pub(crate) fn leave_all<B: Bus>(
     let mut accounts = Vec::with_capacity(alloc, units)?;
     let mut logs = Vec::with_capacity(alloc, units)?;
     for flyer in flyers {
-        let Flyer { board, port } = flyer;
-        let (seat, _, log) = port.end();
-        tokens.push_reserved(seat.end());
-        accounts.push_reserved(board.end());
+        let Flyer { seat, port } = flyer;
+        let (place, _, log) = port.end();
+        tokens.push_reserved(place.end());
+        accounts.push_reserved(seat.end());
         logs.push_reserved(log);
     }
     Ok((tokens, accounts, logs))

@@ -1,4 +1,4 @@
-//! Boards over ports, stepped on one thread.
+//! Units at their seats, stepped on one thread.
 ghost use Rattle.std.specs.Prelude.{◌≡◌, ◌≤◌, ◌*◌, [], All, IfSome, IfNone, IsTrue};
 ghost use Rattle.std.specs.List.{AllZip};
 ghost use Rattle.sift_mission.specs.Parts.{flown_of};
@@ -7,12 +7,12 @@ ghost use Rattle.sift_bus.specs.Turns.{IsNext};
 
 use sift_buffer::Port;
 use sift_mission::Mission;
-use sift_unit::Board;
+use sift_seat::Seat;
 
-/// A unit's board at its port.
+/// A unit at its seat, with its port. No storm is flown here, so it has no rogue.
 #[derive(Drop)]
 pub(crate) struct Flyer<P> {
-    pub(crate) board: Board,
+    pub(crate) seat: Seat,
     pub(crate) port: P,
 }
 
@@ -38,8 +38,8 @@ fn next_of<P: Port>(flyers: &[Flyer<P>], end: u64) -> Option<usize>
 /// they have after as many steps as a number of 64 bits counts; at one a nanosecond these take
 /// five centuries.
 pub(crate) fn fly_all<P: Port>(mission: &Mission, flyers: &mut [Flyer<P>]) -> bool
-    requires { All (λ flyer. Drives (flown_of mission.now) flyer.board (P.view flyer.port)) flyers.old }
-    ensures drives { All (λ flyer. Drives (flown_of mission.now) flyer.board (P.view flyer.port)) flyers.new }
+    requires { All (λ flyer. Drives (flown_of mission.now) flyer.seat.board (P.view flyer.port)) flyers.old }
+    ensures drives { All (λ flyer. Drives (flown_of mission.now) flyer.seat.board (P.view flyer.port)) flyers.new }
     ensures follows { AllZip (λ before after. P.follows before.port [] after.port) flyers.old flyers.new }
     ensures down { IsTrue result → All (λ flyer. (flown_of mission.now).frames * (flown_of mission.now).period ≤ (P.view flyer.port).conduct.progress) flyers.new }
 {
@@ -48,7 +48,7 @@ pub(crate) fn fly_all<P: Port>(mission: &Mission, flyers: &mut [Flyer<P>]) -> bo
         match next_of(flyers, end) {
             Some(number) => {
                 let flyer = &mut flyers[number];
-                flyer.board.step(mission, &mut flyer.port);
+                flyer.seat.step(mission, &mut flyer.port);
             }
             None => return true,
         }

@@ -18,7 +18,7 @@ use Rattle.sift_flight.specs.Told.{told, no_account, journal_of, accounts_of, Is
 use Rattle.sift_flight.specs.declared.flight.Flight.{Flight as TheFlight}
 use Rattle.sift_buffer.specs.Crews.{ledger_at, no_ledger}
 use Rattle.sift_buffer.specs.Racks.{ranges_for, core_of}
-use Rattle.sift_core.specs.Machines.{Flies, IsFlying, board_at, layout_of}
+use Rattle.sift_core.specs.Machines.{boards_of, Flies, IsFlying, board_at, layout_of}
 use Rattle.sift_core.specs.Turns.{AreAllDown}
 use Rattle.sift_core.specs.declared.machine.Machine.{Machine}
 use Rattle.sift_core.proofs.EndedFrames.{has_places, view_beside, drives_beside}
@@ -32,7 +32,7 @@ pub record Lands (m : FlownMission) (x : Machine) (fl : TheFlight) : Type 0 wher
   pub down : AreAllDown m x
   pub words : All HasItsWords x.rack.acts.items
   pub journals : fl.journals.items ≡ map (λ ledger. ledger.pages) x.rack.acts.items
-  pub accounts : map (λ accounts. map account_of accounts.items) fl.accounts.items ≡ map (λ board. (desk_of board).accounts) x.boards.items
+  pub accounts : map (λ accounts. map account_of accounts.items) fl.accounts.items ≡ map (λ board. (desk_of board).accounts) (boards_of x)
 
 module _ (m : FlownMission) (x : Machine) (fl : TheFlight) (lands : Lands m x fl) where
   -- the first board
@@ -50,7 +50,7 @@ module _ (m : FlownMission) (x : Machine) (fl : TheFlight) (lands : Lands m x fl
 
     accounts_are : accounts_of fl u ≡ (desk_of (board_at x some_board u)).accounts
     accounts_are = ap (λ (lists : List (List Account)). slice_index_or lists u []) lands.accounts
-        ∙ get_or-map (λ (b : Board). (desk_of b).accounts) x.boards.items u some_board [] (rw lands.flying.1.count low)
+        ∙ get_or-map (λ (b : Board). (desk_of b).accounts) (boards_of x) u some_board [] (rw lands.flying.1.count low)
 
     -- its journal has the words of its conduct, strays or not
     words_are : HasWordsOf ((core_of x.rack w).of u) (journal_of fl u)
@@ -88,7 +88,7 @@ module _ (m : FlownMission) (x : Machine) (fl : TheFlight) (lands : Lands m x fl
     journal = λ u there. subst (λ (j : Pages). IsJournalOf j (layout_of x) u m.frames) (sym (journal_is down stray lands.flying.0 lands.flying.1 u there))
         (subst (λ (n : ℕ). IsJournalOf (ledger_at x.rack.acts.items u).pages (layout_of x) u n) lands.flying.1.frames
         (x.rack.owned u (unit_below m x u lands.flying there)));
-    lists = sym (length-map fl.accounts.items _) ∙ (ap length lands.accounts ∙ (length-map x.boards.items _ ∙ (lands.flying.1.count ∙ sym
+    lists = sym (length-map fl.accounts.items _) ∙ (ap length lands.accounts ∙ (length-map (boards_of x) _ ∙ (lands.flying.1.count ∙ sym
         (unit_count m x lands.flying))));
     accounts = count_is down stray lands.flying.0 lands.flying.1;
   }

@@ -1,3 +1,4 @@
+pub mod Calls
 pub mod EndedFrames
 pub mod Home
 pub mod Least

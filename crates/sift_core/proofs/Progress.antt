@@ -18,11 +18,12 @@ use Rattle.sift_unit.specs.Stepping.{Steps}
 use Rattle.sift_unit.specs.declared.board.Board.{Board}
 use Rattle.sift_unit.specs.declared.board.Stepped.{Stepped}
 use Rattle.sift_unit.specs.declared.board.Stepped.TheVariants.{Moved, NotYet, Turned, Landed}
-use Rattle.sift_core.specs.Machines.{IsFlying, HasTurnedIn, board_at, layout_of, progress_at, distances}
+use Rattle.sift_core.specs.Machines.{boards_of, IsFlying, HasTurnedIn, board_at, layout_of, progress_at, distances}
 use Rattle.sift_core.specs.Steps.{StepsUnit, IsWaiting}
 use Rattle.sift_core.specs.Turns.{IsAloft, IsLeast}
 use Rattle.sift_core.specs.declared.machine.Machine.{Machine}
-use Rattle.sift_core.specs.laws.Stages.{end_low, keeps_flying, not_left, unfinished_low}
+use Rattle.sift_seat.specs.laws.Ends.{end_low}
+use Rattle.sift_core.specs.laws.Stages.{keeps_flying, not_left, unfinished_low}
 use Rattle.sift_core.proofs.MachineSteps.{unit_below}
 use Rattle.sift_core.proofs.Others.{others_stay}
 use Rattle.sift_core.proofs.Lists.{sums}
@@ -38,7 +39,7 @@ first_low x = let enough = x.rack.grid.lawful.enough_units in omega arith
 
 -- its first board
 pub first : (m : FlownMission) (x : Machine) → IsFlying m x → Board
-first m x flying = first_of x.boards.items 0 (rw flying.1.count (first_low x))
+first m x flying = first_of (boards_of x) 0 (rw flying.1.count (first_low x))
 
 -- the mission is one that boards can fly
 pub flyable : (m : FlownMission) (x : Machine) (flying : IsFlying m x) → Drives m (board_at x (first m x flying) 0) (view_at x.rack 0)
@@ -60,7 +61,7 @@ module _ (m : FlownMission) (x : Machine) (u : ℕ) (r : Stepped) (x' : Machine)
 
   -- a board for where there is none
   some_board : Board
-  some_board = first_of x.boards.items u (rw flying.1.count low)
+  some_board = first_of (boards_of x) u (rw flying.1.count low)
 
   -- the boards before and after
   abbrev b : Board
@@ -90,7 +91,7 @@ module _ (m : FlownMission) (x : Machine) (u : ℕ) (r : Stepped) (x' : Machine)
 
   -- all distances but this one are the same
   others_distances : distances m x' + distance m (desk_of b) ≡ distances m x + distance m (desk_of b')
-  others_distances = sums (λ z. distance m (desk_of z)) x.boards.items x'.boards.items u some_board
+  others_distances = sums (λ z. distance m (desk_of z)) (boards_of x) (boards_of x') u some_board
       (flying'.1.count ∙ (ap (λ (l : Layout). l.units) s.layout ∙ sym flying.1.count)) (rw flying.1.count low) s.others
 
   -- the others keep their progress

@@ -1,6 +1,6 @@
 -- What one unit's turn does to the calls that are left, and to the strays over which the machine flies.
 use Rattle.std.proofs.Common.{◌≡◌, ◌≢◌, ℕ, ◌+◌, ◌-◌, ◌*◌, ◌<◌, ◌≤◌, List, [], ◌∷◌, ◌++◌, length, slice_index, slice_index_or, length-set, true, Option, Some, None, IfSome, option_map, option_to_list, refl, sym, ap, ◌∙◌, subst, arith, eq-eqb, ne_eqb}
-use Rattle.std.proofs.lemmas.List.{get_or-set_same, get_or-set_other}
+use Rattle.std.proofs.lemmas.List.{get_or-set_same, get_or-set_other, get_or_default}
 use Rattle.std.proofs.lemmas.Nat.{mul-le}
 use Rattle.std.proofs.lemmas.Option.{same_Some}
 use mathlib.Core.Logic.{dite}
@@ -12,12 +12,15 @@ use Rattle.sift_buffer.specs.Ranges.{IsCell}
 use Rattle.sift_buffer.specs.Tables.{ranges_of}
 use Rattle.sift_buffer.specs.Ledgers.{conduct_in}
 use Rattle.sift_buffer.specs.Crews.{ledger_at, with_strays}
-use Rattle.sift_buffer.specs.Racks.{ranges_for}
+use Rattle.sift_buffer.specs.Racks.{ranges_for, conduct_at}
 use Rattle.sift_buffer.specs.declared.rack.Rack.{Rack}
 use Rattle.sift_config.specs.laws.FirstUnits.{low_unit, unit_low}
 use Rattle.sift_rogue.specs.Storms.{Call, Started, Shoots, sifted, stray_of, StormsBy}
 use Rattle.sift_rogue.specs.declared.rogue.Shot.{Shot}
 use Rattle.sift_script.specs.declared.script.StormEntry.{StormEntry}
+use Rattle.sift_seat.specs.Seats.{HasCalls}
+use Rattle.sift_seat.specs.Storms.{storm_at, calls_of, calls_by, calls_left}
+use Rattle.sift_seat.specs.declared.seat.Seat.{Seat}
 use Rattle.sift_mission.specs.Data.{MissionData}
 use Rattle.sift_mission.specs.Flown.{flown}
 use Rattle.sift_flight.specs.Flight.{Strays, no_strays, IsRound}
@@ -27,11 +30,13 @@ use Rattle.sift_unit.specs.declared.board.Stepped.{Stepped}
 use Rattle.sift_unit.specs.declared.board.Stepped.TheVariants.{Moved, NotYet, Turned, Landed}
 use Rattle.sift_core.specs.Machines.{Flies, IsFlying, HasTurnedIn, layout_of, progress_at}
 use Rattle.sift_core.specs.Steps.{StepsUnit, Stores}
-use Rattle.sift_core.specs.Courses.{AreAllLeft, Course, IsCalled, BeginsStorm, Spends, calls_of, course, storm_at}
+use Rattle.sift_core.specs.Courses.{AreAllLeft, Course, IsCalled, BeginsStorm, Spends, course, course_of, lefts}
 use Rattle.sift_core.specs.Storms.{CarriesOn, FliesByRogues, HasMadeCalls, HaveMadeCalls, AreLeft, IsLeft, IsRoundByRogues, IsUnderWay}
 use Rattle.sift_core.specs.Turns.{AreAllDone, IsAloft, IsDown, end_in}
 use Rattle.sift_core.specs.declared.machine.Machine.{Machine}
-use Rattle.sift_core.specs.laws.Stages.{end_low}
+use Rattle.sift_seat.specs.laws.Ends.{end_low}
+use Rattle.sift_core.proofs.Calls.{left_at}
+use Rattle.sift_core.proofs.MachineSteps.{unit_below, seat_unit}
 use Rattle.sift_core.proofs.Progress.{flyable, others_progress, step_comes}
 
 -- no option is both
@@ -175,7 +180,7 @@ module _ {R : Type 0} (allows : R → Call → R → Type 0) (d : MissionData) (
   begun_left : slice_index ls' u ≡ begun.storm.strays
   begun_left =
       let all = (way.left.each u begun_low).before begun.storm begun.storm_is aloft in let long = way.left.long in
-      let f = begun_few in let less = own_left started u ys ls ys' ls' begun.called (omega arith) in omega arith
+      let low = begun_low in let less = own_left started u ys ls ys' ls' begun.called (omega arith) in omega arith
 
   not_up : ¬ IsAloft (flown d) x' u
   not_up up = let end = end_low (flown d) (flyable (flown d) x way.flies).fits in let is = turned in omega arith
@@ -239,7 +244,7 @@ module _ {R : Type 0} (allows : R → Call → R → Type 0) (d : MissionData) (
   -- a stray changes no progress
   stored_one : (o : Option Stray) → Stores u o s.machine s'.machine → (layout_of s'.machine ≡ layout_of s.machine)
       × ((p : ℕ) → progress_at s'.machine p ≡ progress_at s.machine p)
-  stored_one None is = (ap layout_of is, λ p. ap (λ (x : Machine). progress_at x p) is)
+  stored_one None is = (ap (λ (k : Rack). k.grid.layout) is.rack, λ p. ap (λ (k : Rack). (conduct_at k p).progress) is.rack)
   stored_one (Some t) stored = (stored.rack.layout, λ p i. (conduct_in (ledger_at (stored.rack.acts i).items p)).progress)
 
   spent_same : (layout_of s'.machine ≡ layout_of s.machine) × ((p : ℕ) → progress_at s'.machine p ≡ progress_at s.machine p)
@@ -252,7 +257,10 @@ module _ {R : Type 0} (allows : R → Call → R → Type 0) (d : MissionData) (
   still_down = let is = spent_same.1 u in omega arith
 
   spent_less : slice_index s'.left u ≡ slice_index s.left u - 1
-  spent_less = own_left spent_shot u s.rogues s.left s'.rogues s'.left spent.called (let long = way.left.long in let f = spent_few in omega arith)
+  spent_less = own_left spent_shot u s.rogues s.left s'.rogues s'.left spent.called (let long = way.left.long in let low = spent_low in omega arith)
+
+  pub spent_layout : layout_of s'.machine ≡ layout_of s.machine
+  spent_layout = spent_same.0
 
   -- after one call more of the rogue of a unit that is down the flight is under way still
   pub spent_way : IsUnderWay d s'
@@ -316,6 +324,11 @@ pub record GoesOn {R : Type 0} (allows : R → Call → R → Type 0) (d : Missi
   pub way : IsUnderWay d s'
   pub storms : CarriesOn allows d s s'
 
+-- so it is with the calls that are left at its seats, where these are as many
+pub at_seats : {R : Type 0} (allows : R → Call → R → Type 0) (d : MissionData) (s : Course R) (x : Machine) (ls : List ℕ) (ys : List R) → lefts d x ≡ ls →
+    GoesOn allows d s (course x ls ys) → GoesOn allows d s (course_of d x ys)
+at_seats {R} allows d s x ls ys same goes = subst (λ (k : List ℕ). GoesOn allows d s (course x k ys)) (sym same) goes
+
 module _ {R : Type 0} (allows : R → Call → R → Type 0) (d : MissionData) (u : ℕ) (x x' : Machine) (ls : List ℕ) (ys : List R)
     (there : has (flown d).units u ≡ true) (way : IsUnderWay d (course x ls ys)) (aloft : IsAloft (flown d) x u)
     (on : (w : Strays) → Flies (flown d) w x → Flies (flown d) w x') where
@@ -366,6 +379,34 @@ module _ {R : Type 0} (allows : R → Call → R → Type 0) (d : MissionData) (
         way = begun_way allows d u x x' (step_one Turned stepped) there aloft is on ls ys ls' ys' begun way;
         storms = begun_storms allows d u x x' (step_one Turned stepped) there aloft is on ls ys ls' ys' begun way;
       }
+
+-- ---- at the seats
+
+-- whether calls are left at a unit's seat, where some are and the unit is down
+module _ (d : MissionData) (x : Machine) (u : ℕ) (s : Seat) (unit : s.board.unit ≡ u) (left : IsLeft d x u (calls_left d s)) (some : 0 < calls_left d s)
+    (down : IsDown (flown d) x u) where
+  by_entry : (o : Option StormEntry) → storm_at d u ≡ o → calls_left d s ≡ calls_of o → ⊥
+  by_entry None is all = let none = left.calm is in omega arith
+  by_entry (Some t) is all = let few = (left.after t is down).0 in omega arith
+
+  -- then its storm has begun, and these are left of it
+  pub has_calls : HasCalls s
+  has_calls = by s.left refl
+    where
+      by : (o : Option ℕ) → s.left ≡ o → HasCalls s
+      by None none = absurd (by_entry (storm_at d u) refl
+          (ap (calls_by (storm_at d s.board.unit)) none ∙ ap (λ (v : ℕ). calls_of (storm_at d v)) unit))
+      by (Some n) is = (n, is, (let all : calls_left d s ≡ n = ap (calls_by (storm_at d s.board.unit)) is in omega arith))
+
+-- so it is at the unit's place
+pub has_calls_at : (d : MissionData) (x : Machine) (u : ℕ) (e : Seat) → IsFlying (flown d) x → has (flown d).units u ≡ true → u < length x.seats.items →
+    IsLeft d x u (slice_index (lefts d x) u) → 0 < slice_index (lefts d x) u → IsDown (flown d) x u → HasCalls (slice_index_or x.seats.items u e)
+has_calls_at d x u e flying there low left some down =
+    let s : Seat = slice_index_or x.seats.items u e in
+    let here : s ≡ slice_index_or x.seats.items u s = get_or_default x.seats.items u e s low in
+    let is : slice_index (lefts d x) u ≡ calls_left d s = left_at d x u u s low refl here in
+    has_calls d x u s (seat_unit (flown d) x u u s flying (unit_below (flown d) x u flying there) refl here)
+    (subst (λ (n : ℕ). IsLeft d x u n) is left) (subst (λ (n : ℕ). 0 < n) is some) down
 
 -- ---- the whole flight
 
@@ -430,14 +471,3 @@ spender_turned d x u left k some down = by_storm (storm_at d u) refl
     by_storm : (o : Option StormEntry) → storm_at d u ≡ o → HasTurnedIn x u
     by_storm None is = absurd (let none = k.calm is in omega arith)
     by_storm (Some t) is = (k.after t is down).1
-
--- a shot's cell of the rack's layout is one of the rack's
-pub shot_there : (x : Rack) (u : ℕ) (l : Layout) (o : Option Shot) → l ≡ x.grid.layout →
-    IfSome o (λ s. (frames : ℕ) → IsCell (ranges_of l frames) u s.to s.slot) → IfSome o (λ s. IsCell (ranges_for x) u s.to s.slot)
-shot_there x u l None same there = tt
-shot_there x u l (Some s) same there = subst (λ (k : Layout). IsCell (ranges_of k x.grid.frames) u s.to s.slot) same (there x.grid.frames)
-
--- a call by one layout is a call by the same
-pub called_by : {R : Type 0} (allows : R → Call → R → Type 0) (l k : Layout) (u : ℕ) (o : Option Shot) (xs : List R) (left : List ℕ) (ys : List R) (left' : List ℕ) →
-    l ≡ k → IsCalled (λ x y. Shoots allows (sifted l u) x o y) u xs left ys left' → IsCalled (λ x y. Shoots allows (sifted k u) x o y) u xs left ys left'
-called_by {R} allows l k u o xs left ys left' same called = subst (λ (z : Layout). IsCalled (λ x y. Shoots allows (sifted z u) x o y) u xs left ys left') same called

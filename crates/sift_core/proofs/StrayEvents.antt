@@ -1,6 +1,5 @@
 -- A stray that is stored, as an event of a rack.
-use Rattle.std.proofs.Common.{◌≡◌, ℕ, ◌<◌, [], ◌∷◌, length, slice_index_or, ⊎_elim, Vec, sym, ap, ◌∙◌, subst, arith}
-use Rattle.std.specs.declared.alloc.Global.{Global}
+use Rattle.std.proofs.Common.{◌≡◌, ℕ, ◌<◌, [], ◌∷◌, length, slice_index_or, ⊎_elim, List, sym, ap, ◌∙◌, subst, arith}
 use Rattle.sift_base.specs.declared.slots.Layout.{Layout}
 use Rattle.sift_config.specs.Config.{first_units}
 use Rattle.sift_buffer.specs.Ranges.{Ranges, IsCell}
@@ -33,9 +32,9 @@ stray_flies keep x x' u s stored there turned cell m w flies =
       units = flies.units ∙ ap (λ (l : Layout). first_units l.units) (sym stored.rack.layout);
       lawful = subst (λ (r : Ranges). Lawful r (core_of b v)) (sym (same_ranges a u s b stored.rack))
           (reached_lawful keep (ranges_for a) u (core_of a w) (core_of b v) (stray_reaches a u s b stored.rack there left cell w) flies.lawful);
-      count = ap (λ (bs : Vec Board Global). length bs.items) stored.boards ∙ (flies.count ∙ ap (λ (l : Layout). l.units) (sym stored.rack.layout));
+      count = ap length stored.boards ∙ (flies.count ∙ ap (λ (l : Layout). l.units) (sym stored.rack.layout));
       frames = stored.rack.frames ∙ flies.frames;
-      drives = λ p e hp. subst (λ (bs : Vec Board Global). Drives m (slice_index_or bs.items p e) (view_at b p)) (sym stored.boards)
+      drives = λ p e hp. subst (λ (bs : List Board). Drives m (slice_index_or bs p e) (view_at b p)) (sym stored.boards)
           (subst (λ (v : View). Drives m (board_at x e p) v) (sym (same_view a u s b stored.rack p))
           (flies.drives p e (subst (λ (l : Layout). p < l.units) stored.rack.layout hp)));
     }

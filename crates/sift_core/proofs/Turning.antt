@@ -1,6 +1,5 @@
 -- One turn, and all of them.
-use Rattle.std.proofs.Common.{◌≡◌, inl, inr, ⊎_elim, ℕ, suc, ◌-◌, ◌<◌, ◌≤◌, Vec, List, length, slice_index, Bool, true, false, Option, Some, None, option_map, refl, sym, ap, ◌∙◌, subst, arith}
-use Rattle.std.specs.declared.alloc.Global.{Global}
+use Rattle.std.proofs.Common.{◌≡◌, inl, inr, ⊎_elim, ℕ, suc, ◌-◌, ◌<◌, ◌≤◌, List, length, slice_index, Bool, true, false, Option, Some, None, option_map, refl, sym, ap, ◌∙◌, subst, arith}
 use Rattle.std.specs.Option.{is_some}
 use Rattle.std.proofs.lemmas.List.FromFn.{length-range_with_len}
 use Rattle.std.proofs.lemmas.List.Sums.{sum_by-set}
@@ -16,14 +15,13 @@ use Rattle.sift_unit.specs.Boards.{desk_of}
 use Rattle.sift_unit.specs.Passing.{distance}
 use Rattle.sift_unit.specs.declared.board.Stepped.{Stepped}
 use Rattle.sift_unit.specs.declared.board.Stepped.TheVariants.{Moved, NotYet, Turned, Landed}
-use Rattle.sift_unit.specs.declared.board.Board.{Board}
 use Rattle.sift_core.specs.Machines.{IsFlying, layout_of, progress_at, distances}
 use Rattle.sift_core.specs.Steps.{IsWaiting, StepsUnit, Stores}
 use Rattle.sift_core.specs.Courses.{Course, IsCalled, IsUncalled, Begins, Spends, rest}
 use Rattle.sift_core.specs.Storms.{IsUnderWay}
 use Rattle.sift_core.specs.Turns.{IsDrawn, AreAllDone, AreAllDown, IsAloft, IsFirstLeft, IsLeast, Tries, StepsItself, SpendsItself, Waits, GivesAway, TakesTurn, TurnsAt, AfterTurns, FliesInOrder}
 use Rattle.sift_core.specs.declared.machine.Machine.{Machine}
-use Rattle.sift_core.proofs.Progress.{flyable, step_near, waits_in_place, least_goes}
+use Rattle.sift_core.proofs.Progress.{step_near, waits_in_place, least_goes}
 
 -- a mission has as many units as the machine
 pub unit_count : (m : FlownMission) (x : Machine) → IsFlying m x → length m.units ≡ (layout_of x).units
@@ -49,7 +47,7 @@ module _ {R : Type 0} (allows : R → Call → R → Type 0) (d : MissionData) w
   one_less : (by : R → R → Type 0) (u : ℕ) (s s' : Course R) → IsUnderWay d s → has m.units u ≡ true → 0 < slice_index s.left u →
       IsCalled by u s.rogues s.left s'.rogues s'.left → total s'.left < total s.left
   one_less by u s s' way there some called =
-      let few = (flyable m s.machine way.flies).fits.counted.units u there in
+      let low = unit_low d.units u there in
       let long = way.left.long in let is = ap total called.left_is in
       let sums = sum_by-set (λ (n : ℕ). n) s.left u (slice_index s.left u - 1) 0 (omega arith) in omega arith
 
@@ -72,8 +70,8 @@ module _ {R : Type 0} (allows : R → Call → R → Type 0) (d : MissionData) w
 
     -- a stray leaves boards where they are
     stored_distances : (o : Option Stray) → Stores u o s.machine s'.machine → distances m s'.machine ≡ distances m s.machine
-    stored_distances None is = ap (λ (x : Machine). distances m x) is
-    stored_distances (Some t) stored = ap (λ (bs : Vec Board Global). sum_by (λ b. distance m (desk_of b)) bs.items) stored.boards
+    stored_distances None is = ap (sum_by (λ b. distance m (desk_of b))) is.boards
+    stored_distances (Some t) stored = ap (sum_by (λ b. distance m (desk_of b))) stored.boards
 
     pub spend_nearer : 0 < slice_index s.left u → Spends allows u s s' → rest d s' < rest d s
     spend_nearer some t =

@@ -1,13 +1,12 @@
 -- A flight under way: the machine, the rogues of its units, and how many of their calls are left.
-use Rattle.std.specs.Prelude.{◌≡◌, ℕ, ◌+◌, ◌-◌, ◌<◌, List, length, slice_index, slice_index_or, slice_set, Option, Some, None, option_map}
+use Rattle.std.specs.Prelude.{◌≡◌, ℕ, ◌+◌, ◌-◌, ◌<◌, List, map, length, slice_index, slice_index_or, slice_set, Option, Some, option_map}
 use Rattle.std.specs.List.{sum_by}
-use Rattle.sift_base.specs.Units.{unit_limit}
 use Rattle.sift_mission.specs.Data.{MissionData}
 use Rattle.sift_mission.specs.Flown.{flown}
-use Rattle.sift_script.specs.Faults.{storm_of}
 use Rattle.sift_script.specs.declared.script.StormEntry.{StormEntry}
 use Rattle.sift_rogue.specs.declared.rogue.Shot.{Shot}
 use Rattle.sift_rogue.specs.Storms.{Call, Started, Shoots, sifted, stray_of}
+use Rattle.sift_seat.specs.Storms.{storm_at, calls_of, calls_left}
 use Rattle.sift_unit.specs.declared.board.Stepped.{Stepped}
 use Rattle.sift_unit.specs.declared.board.Stepped.TheVariants.{Moved, NotYet, Turned, Landed}
 use Rattle.sift_core.specs.Machines.{distances, layout_of}
@@ -23,18 +22,17 @@ pub record Course (R : Type 0) : Type 0 where
 abbrev pub course : {R : Type 0} → Machine → List ℕ → List R → Course R
 course x left rogues = record { machine = x; left = left; rogues = rogues }
 
--- the storm of a unit, if it has one: the frame from which on it is stray, the number by which its storm begins, and how many strays it has
-abbrev pub storm_at : MissionData → ℕ → Option StormEntry
-storm_at d u = storm_of d.script.faults u
+-- how many calls are left at the seats of a machine, by unit
+abbrev pub lefts : MissionData → Machine → List ℕ
+lefts d x = map (calls_left d) x.seats.items
 
--- how many calls a storm has: `start`, and `next` for each stray
-abbrev pub calls_of : Option StormEntry → ℕ
-calls_of None = 0
-calls_of (Some storm) = storm.strays + 1
+-- the flight of a machine, with these rogues
+abbrev pub course_of : {R : Type 0} → MissionData → Machine → List R → Course R
+course_of d x rogues = course x (lefts d x) rogues
 
 -- no call of any storm was made: all are left
 pub record AreAllLeft (d : MissionData) (left : List ℕ) : Type 0 where
-  pub long : length left ≡ unit_limit
+  pub long : length left ≡ d.units
   pub each : (u : ℕ) → u < d.units → slice_index left u ≡ calls_of (storm_at d u)
 
 -- how far a flight is from its end: by its boards' distances, and by the calls that are left
@@ -54,14 +52,7 @@ pub record IsCalled {R : Type 0} (by : R → R → Type 0) (u : ℕ) (xs : List 
   pub left_is : left' ≡ slice_set left u (slice_index left u - 1)
 
 module _ {R : Type 0} (allows : R → Call → R → Type 0) where
-  -- the storm of unit u began, which has so many strays: its rogue, which was x, was called by the number of its storm, and now is y
-  pub record IsBegun (d : MissionData) (u : ℕ) (x : R) (strays : ℕ) (y : R) : Type 0 where
-    pub storm : StormEntry
-    pub storm_is : storm_at d u ≡ Some storm
-    pub start : allows x (Started storm.number) y
-    pub strays_are : strays ≡ storm.strays
-
-  -- the same in a course: it was the rogue at this unit's place, and of its calls one less is left
+  -- the storm of unit u began: the rogue at this unit's place was called by the number of its storm, and of its calls one less is left
   pub record BeginsStorm (d : MissionData) (u : ℕ) (xs : List R) (left : List ℕ) (ys : List R) (left' : List ℕ) : Type 0 where
     pub storm : StormEntry
     pub storm_is : storm_at d u ≡ Some storm

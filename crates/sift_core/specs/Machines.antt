@@ -1,5 +1,5 @@
--- A machine: its rack and its boards, and what holds of them after any steps of its units.
-use Rattle.std.specs.Prelude.{◌≡◌, ℕ, ◌<◌, List, length, slice_index_or}
+-- A machine: its rack and its seats, and what holds of them after any steps of its units.
+use Rattle.std.specs.Prelude.{◌≡◌, ℕ, ◌<◌, List, map, length, slice_index_or}
 use Rattle.std.specs.List.{sum_by}
 use Rattle.sift_base.specs.declared.slots.Layout.{Layout}
 use Rattle.sift_config.specs.Config.{first_units}
@@ -9,8 +9,10 @@ use Rattle.sift_mission.specs.Data.{FlownMission}
 use Rattle.sift_conduct.specs.Conduct.{Account}
 use Rattle.sift_unit.specs.Desk.{accounts_of}
 use Rattle.sift_unit.specs.Passing.{distance}
-use Rattle.sift_unit.specs.Boards.{desk_of, Drives, IsNewBoard}
+use Rattle.sift_unit.specs.Boards.{desk_of, Drives}
 use Rattle.sift_unit.specs.declared.board.Board.{Board}
+use Rattle.sift_seat.specs.Seats.{AreNewSeats, HasCalls}
+use Rattle.sift_seat.specs.declared.seat.Seat.{Seat}
 use Rattle.sift_flight.specs.Flight.{Strays}
 use Rattle.sift_buffer.specs.Racks.{IsNewRack, IsStored, ranges_for, core_of, conduct_at, view_at}
 use Rattle.sift_core.specs.declared.machine.Machine.{Machine}
@@ -19,9 +21,13 @@ use Rattle.sift_core.specs.declared.machine.Machine.{Machine}
 abbrev pub layout_of : Machine → Layout
 layout_of x = x.rack.grid.layout
 
+-- the boards at its seats, in the order of their units
+abbrev pub boards_of : Machine → List Board
+boards_of x = map (λ s. s.board) x.seats.items
+
 -- the board of a unit, and a board d where there is none
 abbrev pub board_at : Machine → Board → ℕ → Board
-board_at x d u = slice_index_or x.boards.items u d
+board_at x d u = slice_index_or (boards_of x) u d
 
 -- and the accounts of its unit, by frame
 abbrev pub accounts_at : FlownMission → Machine → Board → ℕ → ℕ → Account
@@ -40,7 +46,7 @@ HasTurnedIn x u = progress_at x u ≡ never
 pub record Flies (m : FlownMission) (w : Strays) (x : Machine) : Type 0 where
   pub units : m.units ≡ first_units (layout_of x).units
   pub lawful : Lawful (ranges_for x.rack) (core_of x.rack w)
-  pub count : length x.boards.items ≡ (layout_of x).units
+  pub count : length (boards_of x) ≡ (layout_of x).units
   pub frames : x.rack.grid.frames ≡ m.frames
   pub drives : (u : ℕ) (d : Board) → u < (layout_of x).units → Drives m (board_at x d u) (view_at x.rack u)
 
@@ -50,19 +56,23 @@ IsFlying m x = (w : Strays) × Flies m w x
 
 -- how far all boards are from the flight's end
 abbrev pub distances : FlownMission → Machine → ℕ
-distances m x = sum_by (λ b. distance m (desk_of b)) x.boards.items
+distances m x = sum_by (λ b. distance m (desk_of b)) (boards_of x)
 
--- so many boards that have not stepped, in the order of their units
-pub record AreNewBoards (m : FlownMission) (units : ℕ) (boards : List Board) : Type 0 where
-  pub count : length boards ≡ units
-  pub new : (u : ℕ) (d : Board) → u < units → IsNewBoard m u (slice_index_or boards u d)
-
--- no unit has done anything, and no board has stepped
+-- no unit has done anything, and all seats are new
 pub record IsNewMachine (m : FlownMission) (layout : Layout) (x : Machine) : Type 0 where
   pub rack : IsNewRack x.rack layout m.frames
-  pub boards : AreNewBoards m layout.units x.boards.items
+  pub seats : AreNewSeats m layout.units x.seats.items
 
--- a unit's stray was stored, and nothing else has changed
+-- a unit's stray was stored, and no board has changed
 pub record StoresStray (u : ℕ) (s : Stray) (x x' : Machine) : Type 0 where
   pub rack : IsStored x.rack u s x'.rack
-  pub boards : x'.boards ≡ x.boards
+  pub boards : boards_of x' ≡ boards_of x
+
+-- nothing has changed but how many calls of rogues are left
+pub record IsButForCalls (x x' : Machine) : Type 0 where
+  pub rack : x'.rack ≡ x.rack
+  pub boards : boards_of x' ≡ boards_of x
+
+-- calls of a unit's rogue are left at its seat
+abbrev pub HasCallsAt : Machine → ℕ → Type 0
+HasCallsAt x u = (d : Seat) → HasCalls (slice_index_or x.seats.items u d)

@@ -10,7 +10,7 @@ use Rattle.sift_unit.specs.declared.board.Stepped.{Stepped}
 use Rattle.sift_unit.specs.declared.board.Stepped.TheVariants.{Moved, NotYet, Turned, Landed}
 use Rattle.sift_flight.specs.Flight.{Strays}
 use Rattle.sift_buffer.specs.Racks.{ranges_for, core_of, view_at, Stands}
-use Rattle.sift_core.specs.Machines.{layout_of, board_at, StoresStray}
+use Rattle.sift_core.specs.Machines.{layout_of, board_at, StoresStray, IsButForCalls}
 use Rattle.sift_core.specs.declared.machine.Machine.{Machine}
 
 -- unit u stepped, with this answer: whatever was stored before, all that changed of the core is by its events and it stored no stray; each other board is
@@ -28,7 +28,7 @@ IsWaiting (NotYet p n) = ⊤
 IsWaiting Turned = ⊥
 IsWaiting Landed = ⊥
 
--- unit u stored this stray, or nothing has changed, where there is none
+-- unit u stored this stray, or nothing has changed, where there is none; how many calls of rogues are left is another matter
 abbrev pub Stores : ℕ → Option Stray → Machine → Machine → Type 0
-Stores u None x x' = x' ≡ x
+Stores u None x x' = IsButForCalls x x'
 Stores u (Some s) x x' = StoresStray u s x x'

@@ -10,7 +10,8 @@ use Rattle.sift_flight.specs.Flight.{Strays, IsRound}
 use Rattle.sift_flight.specs.Told.{told}
 use Rattle.sift_flight.specs.declared.flight.Flight.{Flight}
 use Rattle.sift_core.specs.Machines.{Flies, IsFlying, HasTurnedIn, layout_of}
-use Rattle.sift_core.specs.Courses.{Course, storm_at}
+use Rattle.sift_seat.specs.Storms.{storm_at}
+use Rattle.sift_core.specs.Courses.{Course}
 use Rattle.sift_core.specs.Turns.{IsAloft, IsDown}
 use Rattle.sift_core.specs.declared.machine.Machine.{Machine}
 
@@ -25,7 +26,7 @@ pub record IsLeft (d : MissionData) (x : Machine) (u left : ℕ) : Type 0 where
 
 -- so many are left of each unit
 pub record AreLeft (d : MissionData) (x : Machine) (left : List ℕ) : Type 0 where
-  pub long : length left ≡ unit_limit
+  pub long : length left ≡ d.units
   pub each : (u : ℕ) → u < d.units → IsLeft d x u (slice_index left u)
 
 -- a flight is under way: its machine flies the mission, there is a rogue for each unit that there may be, and so many calls are left of each

@@ -1,14 +1,8 @@
-//! Flights of missions: all units' boards, stepped in any order over one plain memory, and the rogues of units
+//! Flights of missions: all units at their seats, stepped in any order over one plain memory, and the rogues of units
 //! that turn.
 #![tactic(auto)]
 
-mod going;
-mod landing;
-mod laws;
 mod machine;
 mod order;
 
-pub use going::{CallsLeft, begin_storm};
-pub use landing::fly;
-pub use laws::ended_frames_are_round;
-pub use machine::Machine;
+pub use machine::{Machine, ended_frames_are_round, fly};

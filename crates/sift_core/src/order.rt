@@ -4,11 +4,10 @@ ghost use Rattle.sift_base.specs.Draw.{drawn, next_number};
 ghost use Rattle.sift_base.specs.Units.{has};
 ghost use Rattle.sift_mission.specs.Parts.{data_of, flown_of};
 ghost use Rattle.sift_core.specs.Machines.{IsFlying, layout_of};
-ghost use Rattle.sift_core.specs.Courses.{course, rest};
+ghost use Rattle.sift_core.specs.Courses.{course_of, lefts, rest};
 ghost use Rattle.sift_core.specs.Storms.{CarriesOn, IsUnderWay};
 ghost use Rattle.sift_core.specs.Turns.{end_in, AreAllDone, AreAllDown, IsFirstLeft, IsLeast, IsDrawn, Tries, TurnsAt, FliesInOrder};
 
-use crate::going::CallsLeft;
 use crate::machine::Machine;
 use sift_base::{Draw, UnitId};
 use sift_mission::Mission;
@@ -58,14 +57,14 @@ impl Machine {
     }
 
     /// The lowest-numbered unit of whose rogue calls are left.
-    fn first_left(&self, mission: &Mission, left: &CallsLeft) -> Option<UnitId>
+    fn first_left(&self, mission: &Mission) -> Option<UnitId>
         requires flies { IsFlying (flown_of mission.now) self.now }
-        ensures found { IfSome result (λ u. IsFirstLeft (flown_of mission.now) left.now u) }
-        ensures none { IfNone result ((u : ℕ) → has (flown_of mission.now).units u ≡ true → slice_index left.now u ≡ 0) }
+        ensures found { IfSome result (λ u. IsFirstLeft (flown_of mission.now) (lefts (data_of mission.now) self.now) u) }
+        ensures none { IfNone result ((u : ℕ) → has (flown_of mission.now).units u ≡ true → slice_index (lefts (data_of mission.now) self.now) u ≡ 0) }
     {
         for number in 0..self.rack.layout().units {
             let unit = UnitId::numbered(number);
-            if !left.is_spent(unit) {
+            if !self.is_spent(mission, unit) {
                 return Some(unit);
             }
         }
@@ -73,18 +72,18 @@ impl Machine {
     }
 
     /// Whether all units are done.
-    fn are_all_done(&self, mission: &Mission, end: u64, left: &CallsLeft) -> bool
+    fn are_all_done(&self, mission: &Mission, end: u64) -> bool
         requires flies { IsFlying (flown_of mission.now) self.now }
         requires end { end ≡ end_in (flown_of mission.now) }
-        ensures done { result ≡ true → AreAllDone (flown_of mission.now) self.now left.now }
-        ensures open { result ≡ false → ¬ AreAllDone (flown_of mission.now) self.now left.now }
+        ensures done { result ≡ true → AreAllDone (flown_of mission.now) self.now (lefts (data_of mission.now) self.now) }
+        ensures open { result ≡ false → ¬ AreAllDone (flown_of mission.now) self.now (lefts (data_of mission.now) self.now) }
     {
         for number in 0..self.rack.layout().units {
             let unit = UnitId::numbered(number);
             if self.rack.number_of(unit) < end {
                 return false;
             }
-            if !left.is_spent(unit) {
+            if !self.is_spent(mission, unit) {
                 return false;
             }
         }
@@ -105,24 +104,23 @@ impl Machine {
         mission: &Mission,
         end: u64,
         rogues: &mut [R],
-        left: &mut CallsLeft,
         u: UnitId,
     ) -> bool
-        requires under_way { IsUnderWay (data_of mission.now) (course self.old left.old rogues.old) }
+        requires under_way { IsUnderWay (data_of mission.now) (course_of (data_of mission.now) self.old rogues.old) }
         requires end { end ≡ end_in (flown_of mission.now) }
         requires unit { has (flown_of mission.now).units u ≡ true }
-        ensures under_way { IsUnderWay (data_of mission.now) (course self.new left.new rogues.new) }
+        ensures under_way { IsUnderWay (data_of mission.now) (course_of (data_of mission.now) self.new rogues.new) }
         ensures layout { layout_of self.new ≡ layout_of self.old }
-        ensures tried { Tries R.allows (data_of mission.now) u (course self.old left.old rogues.old) result (course self.new left.new rogues.new) }
-        ensures storms { CarriesOn R.allows (data_of mission.now) (course self.old left.old rogues.old) (course self.new left.new rogues.new) }
+        ensures tried { Tries R.allows (data_of mission.now) u (course_of (data_of mission.now) self.old rogues.old) result (course_of (data_of mission.now) self.new rogues.new) }
+        ensures storms { CarriesOn R.allows (data_of mission.now) (course_of (data_of mission.now) self.old rogues.old) (course_of (data_of mission.now) self.new rogues.new) }
     {
         if self.rack.number_of(u) < end {
-            return self.step_on(mission, rogues, left, u);
+            return self.step_on(mission, rogues, u);
         }
-        if left.is_spent(u) {
+        if self.is_spent(mission, u) {
             return false;
         }
-        self.spend_one(mission, rogues, left, u);
+        self.spend_one(mission, rogues, u);
         true
     }
 
@@ -134,16 +132,15 @@ impl Machine {
         mission: &Mission,
         drawer: &mut Draw,
         rogues: &mut [R],
-        left: &mut CallsLeft,
     ) -> Option<UnitId>
-        requires { IsUnderWay (data_of mission.now) (course self.old left.old rogues.old) }
-        ensures under_way { IsUnderWay (data_of mission.now) (course self.new left.new rogues.new) }
+        requires { IsUnderWay (data_of mission.now) (course_of (data_of mission.now) self.old rogues.old) }
+        ensures under_way { IsUnderWay (data_of mission.now) (course_of (data_of mission.now) self.new rogues.new) }
         ensures layout { layout_of self.new ≡ layout_of self.old }
-        ensures turn { TurnsAt R.allows (data_of mission.now) drawer.old (course self.old left.old rogues.old) result drawer.new (course self.new left.new rogues.new) }
-        ensures storms { CarriesOn R.allows (data_of mission.now) (course self.old left.old rogues.old) (course self.new left.new rogues.new) }
-        ensures nearer { IfSome result (λ u. rest (data_of mission.now) (course self.new left.new rogues.new) < rest (data_of mission.now) (course self.old left.old rogues.old)) }
+        ensures turn { TurnsAt R.allows (data_of mission.now) drawer.old (course_of (data_of mission.now) self.old rogues.old) result drawer.new (course_of (data_of mission.now) self.new rogues.new) }
+        ensures storms { CarriesOn R.allows (data_of mission.now) (course_of (data_of mission.now) self.old rogues.old) (course_of (data_of mission.now) self.new rogues.new) }
+        ensures nearer { IfSome result (λ u. rest (data_of mission.now) (course_of (data_of mission.now) self.new rogues.new) < rest (data_of mission.now) (course_of (data_of mission.now) self.old rogues.old)) }
     {
-        self.turn_before(mission, end_of(mission), drawer, rogues, left)
+        self.turn_before(mission, end_of(mission), drawer, rogues)
     }
 
     /// The next turn of a flight that ends at this progress.
@@ -153,52 +150,45 @@ impl Machine {
         end: u64,
         drawer: &mut Draw,
         rogues: &mut [R],
-        left: &mut CallsLeft,
     ) -> Option<UnitId>
-        requires under_way { IsUnderWay (data_of mission.now) (course self.old left.old rogues.old) }
+        requires under_way { IsUnderWay (data_of mission.now) (course_of (data_of mission.now) self.old rogues.old) }
         requires end { end ≡ end_in (flown_of mission.now) }
-        ensures under_way { IsUnderWay (data_of mission.now) (course self.new left.new rogues.new) }
+        ensures under_way { IsUnderWay (data_of mission.now) (course_of (data_of mission.now) self.new rogues.new) }
         ensures layout { layout_of self.new ≡ layout_of self.old }
-        ensures turn { TurnsAt R.allows (data_of mission.now) drawer.old (course self.old left.old rogues.old) result drawer.new (course self.new left.new rogues.new) }
-        ensures storms { CarriesOn R.allows (data_of mission.now) (course self.old left.old rogues.old) (course self.new left.new rogues.new) }
-        ensures nearer { IfSome result (λ u. rest (data_of mission.now) (course self.new left.new rogues.new) < rest (data_of mission.now) (course self.old left.old rogues.old)) }
+        ensures turn { TurnsAt R.allows (data_of mission.now) drawer.old (course_of (data_of mission.now) self.old rogues.old) result drawer.new (course_of (data_of mission.now) self.new rogues.new) }
+        ensures storms { CarriesOn R.allows (data_of mission.now) (course_of (data_of mission.now) self.old rogues.old) (course_of (data_of mission.now) self.new rogues.new) }
+        ensures nearer { IfSome result (λ u. rest (data_of mission.now) (course_of (data_of mission.now) self.new rogues.new) < rest (data_of mission.now) (course_of (data_of mission.now) self.old rogues.old)) }
     {
-        if self.are_all_done(mission, end, left) {
+        if self.are_all_done(mission, end) {
             return None;
         }
         let drawn = self.drawn_unit(drawer);
-        if self.goes_itself(mission, end, rogues, left, drawn) {
+        if self.goes_itself(mission, end, rogues, drawn) {
             return Some(drawn);
         }
         if let Some(least) = self.least(mission, end) {
-            self.step_on(mission, rogues, left, least);
+            self.step_on(mission, rogues, least);
             return Some(least);
         }
-        if let Some(first) = self.first_left(mission, left) {
-            self.spend_one(mission, rogues, left, first);
+        if let Some(first) = self.first_left(mission) {
+            self.spend_one(mission, rogues, first);
             return Some(first);
         }
         unreachable!()
     }
 
     /// Flies to the end, turn by turn, as the order number draws them.
-    pub(crate) fn fly_on<R: Rogue>(
-        &mut self,
-        mission: &Mission,
-        order: u64,
-        rogues: &mut [R],
-        left: &mut CallsLeft,
-    )
-        requires { IsUnderWay (data_of mission.now) (course self.old left.old rogues.old) }
-        ensures under_way { IsUnderWay (data_of mission.now) (course self.new left.new rogues.new) }
+    pub(crate) fn fly_on<R: Rogue>(&mut self, mission: &Mission, order: u64, rogues: &mut [R])
+        requires { IsUnderWay (data_of mission.now) (course_of (data_of mission.now) self.old rogues.old) }
+        ensures under_way { IsUnderWay (data_of mission.now) (course_of (data_of mission.now) self.new rogues.new) }
         ensures layout { layout_of self.new ≡ layout_of self.old }
-        ensures order { FliesInOrder R.allows (data_of mission.now) order (course self.old left.old rogues.old) (course self.new left.new rogues.new) }
-        ensures storms { CarriesOn R.allows (data_of mission.now) (course self.old left.old rogues.old) (course self.new left.new rogues.new) }
+        ensures order { FliesInOrder R.allows (data_of mission.now) order (course_of (data_of mission.now) self.old rogues.old) (course_of (data_of mission.now) self.new rogues.new) }
+        ensures storms { CarriesOn R.allows (data_of mission.now) (course_of (data_of mission.now) self.old rogues.old) (course_of (data_of mission.now) self.new rogues.new) }
     {
         let mut drawer = Draw::of(order);
         let end = end_of(mission);
         while self
-            .turn_before(mission, end, &mut drawer, rogues, left)
+            .turn_before(mission, end, &mut drawer, rogues)
             .is_some()
         {}
     }

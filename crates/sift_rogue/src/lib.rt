@@ -1,10 +1,8 @@
 //! Rogues: who says what a unit stores once it has turned stray, and what of it is stored.
 #![tactic(auto)]
 
-mod laws;
 mod rogue;
 mod storm;
 
-pub use laws::{drawn_storms_are_the_draws, storms_add_up};
 pub use rogue::{Act, Rogue, Shot, next_shot};
-pub use storm::{Fixed, Silent, Storm};
+pub use storm::{Fixed, Silent, Storm, drawn_storms_are_the_draws, storms_add_up};

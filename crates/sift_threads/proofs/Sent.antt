@@ -1,4 +1,4 @@
--- Boards may be sent to another thread, and a mission may be lent to several.
+-- Units at their seats may be sent to another thread, and a mission may be lent to several.
 use denote.Param.Send.{IsSend, IsSync, sendable}
 use denote.Param.SendFields.{declared_send, declared_sync}
 use denote.RattleType.{RattleType}
@@ -15,15 +15,15 @@ use Rattle.sift_skew.proofs.clocks.ClockPlan.TheSendSync as clock
 use Rattle.sift_table.proofs.table.GoodTable.TheSendSync as table
 use Rattle.sift_mission.proofs.crews.Crews.TheSendSync as crews
 use Rattle.sift_mission.proofs.timetable.Timetable.TheSendSync as timetable
-use Rattle.sift_unit.specs.contracts.board.Board as Board
-use Rattle.sift_unit.proofs.board.Board.TheSendSync as board
-use Rattle.sift_threads.specs.contracts.seat.Seat as Seat
+use Rattle.sift_seat.specs.contracts.seat.Seat as Seat
+use Rattle.sift_seat.proofs.seat.Seat.TheSendSync as seat
+use Rattle.sift_threads.specs.contracts.seating.Manned as Manned
 
 -- ---- what may be sent, and what may be lent to several threads
 
--- a board
-pub board_send : IsSend Board.the_row
-board_send = board.the_send
+-- a seat
+pub seat_send : IsSend Seat.the_row
+seat_send = seat.the_send
 
 -- a program, by its tasks' trees
 program_sync : IsSync Program.the_row
@@ -77,15 +77,15 @@ inside_sync = declared_sync Inside.the_type (
 pub mission_sync : IsSync Mission.the_row
 mission_sync = search (sendable, inside_sync) depth 40 fits 20000
 
--- a seat may be sent where its port and its rogue may
-pub seat_send : (l : NamedLft) (T R : RattleType) → IsSend T → IsSend R → IsSend (Seat.the_row l T R)
-seat_send l T R port rogue = declared_send (Seat.the_type l T R) (
+-- a unit at its seat may be sent where its port and its rogue may
+pub manned_send : (l : NamedLft) (T R : RattleType) → IsSend T → IsSend R → IsSend (Manned.the_row l T R)
+manned_send l T R port rogue = declared_send (Manned.the_type l T R) (
   search (sendable, crosses, mission_sync) depth 40 fits 20000,
   (
     search (sendable, crosses) depth 40 fits 20000,
     (
-      search (sendable, crosses, board_send) depth 40 fits 20000,
-      (search (sendable, crosses, port) depth 40 fits 20000, (search (sendable, crosses, rogue) depth 40 fits 20000, (search (sendable, crosses) depth 40 fits 20000, tt))),
+      search (sendable, crosses, seat_send) depth 40 fits 20000,
+      (search (sendable, crosses, port) depth 40 fits 20000, (search (sendable, crosses, rogue) depth 40 fits 20000, tt)),
     ),
   ),
 )

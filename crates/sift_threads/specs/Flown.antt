@@ -12,7 +12,7 @@ use Rattle.sift_rogue.specs.Storms.{Call, Storms, sifted}
 use Rattle.sift_script.specs.declared.script.StormEntry.{StormEntry}
 use Rattle.sift_ether.specs.Tokens.{AreTokensOf, conduct_at}
 use Rattle.sift_ether.specs.declared.ether.Ether.{Ether}
-use Rattle.sift_core.specs.Courses.{storm_at}
+use Rattle.sift_seat.specs.Storms.{storm_at}
 use Rattle.sift_threads.specs.declared.flight.Flown.{Flown}
 
 -- a unit without a storm has landed: it is at the subframe after the last, it has stored no stray, and its rogue is as it was

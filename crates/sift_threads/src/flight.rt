@@ -11,11 +11,11 @@ use crate::bell::EtherBell;
 use crate::seating::{leave_home, seat_all};
 use sift_base::NoMemory;
 use sift_conduct::Account;
-use sift_core::Machine;
 use sift_ether::{Ether, Token};
 use sift_flight::{Flight, flights_that_come_home_are_round};
 use sift_mission::{Mission, a_mission_fits};
 use sift_rogue::Rogue;
+use sift_seat::Seat;
 use sift_workers::{Probe, fly_all};
 use std::alloc::Global;
 use std::sync::Wait;
@@ -72,10 +72,10 @@ pub fn fly_seats<R: Rogue + Send, B: Probe + Sync, H: Threads + Wait + Sync>(
     let units = usize::from(mission.parts().units);
     let empty = Flown::with_room(alloc, units, rogues.len())?;
     let room = Vec::with_capacity(alloc, units)?;
-    let boards = Machine::make_boards(alloc, mission)?;
-    let (seats, beyond) = seat_all(mission, ether, tokens, boards, rogues, room);
+    let seats = Seat::make_all(alloc, mission)?;
+    let (places, beyond) = seat_all(mission, ether, tokens, seats, rogues, room);
     let bell = EtherBell::of(ether, probe);
-    let home = fly_all(rt, alloc, seats, workers, &bell)?;
+    let home = fly_all(rt, alloc, places, workers, &bell)?;
     Ok(leave_home(mission, ether, home, beyond, empty))
 }
 

@@ -3,9 +3,8 @@
 
 mod bell;
 mod flight;
-mod seat;
 mod seating;
 
 pub use flight::{Flown, fly_seats, fly_threads};
-pub use seat::Seat;
+pub use seating::Manned;
 pub use sift_workers::{NoProbe, Probe};

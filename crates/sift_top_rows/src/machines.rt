@@ -2,7 +2,7 @@
 
 use crate::stated::{FIVE, eight_units, silents, stated};
 use sift_base::Draw;
-use sift_core::{CallsLeft, Machine};
+use sift_core::Machine;
 use sift_mission::Mission;
 use std::alloc::Global;
 use std::process::Abort;
@@ -43,10 +43,9 @@ fn expect_turns(
     let mut machine = Machine::make(alloc, mission)?;
     let mut drawer = Draw::of(order);
     let mut rogues = silents(alloc)?;
-    let mut left = CallsLeft::of(mission);
     for &digit in want {
         let last = machine
-            .turn(mission, &mut drawer, &mut rogues, &mut left)
+            .turn(mission, &mut drawer, &mut rogues)
             .ok_or("units have yet to land")?;
         assert_eq!(rt; last.get() + 48, digit);
     }

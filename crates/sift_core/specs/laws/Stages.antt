@@ -1,20 +1,13 @@
 -- Whether a unit flies, has landed or has turned, as its progress number tells.
-use Rattle.std.proofs.Common.{◌≡◌, ◌≢◌, ◌*◌, ◌<◌, ◌≤◌, Bool, true, false, ⊎_elim, arith, mul_comm}
-use Rattle.std.proofs.lemmas.Nat.{mul-le, mul-add-lt}
-use Rattle.sift_buffer.specs.Conduct.{Conduct, never, last_progress}
+use Rattle.std.proofs.Common.{◌≡◌, ◌≢◌, ◌<◌, Bool, true, false, ⊎_elim, arith, mul_comm}
+use Rattle.std.proofs.lemmas.Nat.{mul-add-lt}
+use Rattle.sift_buffer.specs.Conduct.{Conduct, never}
 use Rattle.sift_buffer.specs.Lawful.{HasStage}
 use Rattle.sift_mission.specs.Data.{FlownMission}
-use Rattle.sift_mission.specs.Fits.{Fits}
-use Rattle.sift_mission.specs.PartsFit.{frame_limit, longest_period}
 use Rattle.sift_unit.specs.Desk.{Desk}
 use Rattle.sift_unit.specs.Going.{Going}
 use Rattle.sift_unit.specs.Keeping.{Flying, Turned, KeepsAs}
 use Rattle.sift_core.specs.Turns.{end_in}
-
--- a flight ends at the greatest progress of a unit that flies, or before
-pub end_low : (m : FlownMission) → Fits m → end_in m ≤ last_progress
-end_low m fits = let counted = fits.counted in let most : m.frames * m.period ≤ frame_limit * longest_period =
-    mul-le m.frames m.period frame_limit longest_period counted.frames counted.short in omega arith
 
 -- a board whose unit's number is another one than that of a unit that has turned flies
 pub keeps_flying : (m : FlownMission) (t : Bool) (b : Desk) (c : Conduct) → KeepsAs m t b c → c.progress ≢ never → Flying m b c

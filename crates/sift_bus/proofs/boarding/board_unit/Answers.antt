@@ -18,8 +18,8 @@ returns g c = let a = c.args in
     ∙ ((λ i. blank_log (c.parts-parts.ensures.same i).layout (c.parts-parts.ensures.same i).frames)
     ∙ sym (λ i. blank_log (c.requires.ether.layout_is i) (c.requires.ether.frames_are i))) in
     record {
-      drives = new_drives (data_of a.mission.now) a.unit c.in_ok-board.board (view_of c.over-port.result.port) c.parts-parts.ensures.fit
-          c.new_boards_may_step.ensures c.requires.unit c.in_ok-board.ensures (ap view_of c.over-port.ensures.port ∙ view);
+      drives = new_drives (data_of a.mission.now) a.unit c.in_ok-seat.seat.board (view_of c.over-port.result.port) c.parts-parts.ensures.fit
+          c.new_boards_may_step.ensures c.requires.unit c.in_ok-seat.ensures.board (ap view_of c.over-port.ensures.port ∙ view);
       seat = subst (λ (s : EtherSeat). IsSeatOf a.ether.now a.token s) (sym c.over-port.ensures.port) c.seat.ensures;
       link = c.over-port.ensures.link ∙ (λ i. first_link (sym c.requires.token.unit i) a.faulty a.bus (log i));
     }

@@ -15,10 +15,10 @@ pub loop-flyer-preserved : goal.loop-flyer-preserved
 loop-flyer-preserved g c =
     let inv = c.loop-flyer.invariant in let long = length-append c.loop-flyer.yielded (c.in-Some.flyer ∷ []) in record {
       tokens = rw c.push_reserved.ensures.items (side_push (λ flyer token. IsTokenBack flyer.port.port token) c.loop-flyer.yielded c.loop-flyer.tokens.items
-          c.in-Some.flyer c.end.result inv.tokens (subst (λ (s : EtherSeat). IsTokenBack s c.end.result) c.end-seat.ensures.port c.end.ensures));
+          c.in-Some.flyer c.end.result inv.tokens (subst (λ (s : EtherSeat). IsTokenBack s c.end.result) c.end-place.ensures.port c.end.ensures));
       accounts = c.push_reserved-in-loop-flyer.ensures.items ∙ ((λ i. inv.accounts i ++ (c.end-in-loop-flyer.ensures i ∷ []))
-          ∙ sym (map-append (λ flyer. flyer.board.accounts) c.loop-flyer.yielded (c.in-Some.flyer ∷ [])));
-      logs = c.push_reserved-in-loop-flyer-2.ensures.items ∙ ((λ i. inv.logs i ++ (c.end-seat.ensures.log i ∷ []))
+          ∙ sym (map-append (λ flyer. flyer.seat.board.accounts) c.loop-flyer.yielded (c.in-Some.flyer ∷ [])));
+      logs = c.push_reserved-in-loop-flyer-2.ensures.items ∙ ((λ i. inv.logs i ++ (c.end-place.ensures.log i ∷ []))
           ∙ sym (map-append (λ flyer. flyer.port.log) c.loop-flyer.yielded (c.in-Some.flyer ∷ [])));
       all = append_assoc c.loop-flyer.yielded (c.in-Some.flyer ∷ []) c.next.new.self.rest.items
           ∙ ((λ i. c.loop-flyer.yielded ++ sym c.in-Some.ensures.steps.0 i) ∙ inv.all);
@@ -77,7 +77,7 @@ pub returns-clause-logs : goal.returns-clause-logs
 returns-clause-logs g c = c.loop-flyer.invariant.logs ∙ ap (map (λ flyer. flyer.port.log)) (all_left g (goal.at.returns-clause-logs g c).In-None)
 
 pub returns-clause-accounts : goal.returns-clause-accounts
-returns-clause-accounts g c = c.loop-flyer.invariant.accounts ∙ ap (map (λ flyer. flyer.board.accounts)) (all_left g (goal.at.returns-clause-accounts g c).In-None)
+returns-clause-accounts g c = c.loop-flyer.invariant.accounts ∙ ap (map (λ flyer. flyer.seat.board.accounts)) (all_left g (goal.at.returns-clause-accounts g c).In-None)
 
 pub returns-clause-tokens : goal.returns-clause-tokens
 returns-clause-tokens g c = subst (λ (xs : List (Boarded g.row.B.Denot)). AllZip (λ flyer token. IsTokenBack flyer.port.port token) xs c.loop-flyer.tokens.items)

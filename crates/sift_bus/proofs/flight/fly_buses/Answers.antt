@@ -19,7 +19,7 @@ board_all-requires-clause-made g c = subst (λ (p : MissionParts). IsMade c.in_o
     c.parts-parts.ensures.same c.in_ok-ether.ensures
 
 pub fly_all-requires : goal.fly_all-requires
-fly_all-requires g c = subst (λ (xs : List (Boarded g.row.B.Denot)). All (λ x. Drives (flown_of c.args.mission.now) x.board (seat_view x)) xs)
+fly_all-requires g c = subst (λ (xs : List (Boarded g.row.B.Denot)). All (λ x. Drives (flown_of c.args.mission.now) x.seat.board (seat_view x)) xs)
     (sym c.as_mut_slice.ensures.value)
     (boarded_drive (flown_of c.args.mission.now) c.in_ok-ether.ether c.args.faulty c.in_ok-ether.tokens.items c.args.buses.items c.in_ok-flyers.flyers.items
     c.in_ok-flyers.ensures)

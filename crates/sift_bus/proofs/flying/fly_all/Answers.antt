@@ -16,10 +16,10 @@ loop-init g c = record {
 -- the next one has stepped
 pub loop-preserved : goal.loop-preserved
 loop-preserved g c = record {
-  drives = All-set (λ flyer. Drives (flown_of c.args.mission.now) flyer.board (g.P.Look.view flyer.port)) c.loop.flyers c.in-Some.number
-      (record { board = c.step.new.self; port = c.step.new.port }) c.step.ensures.drives c.loop.invariant.drives;
+  drives = All-set (λ flyer. Drives (flown_of c.args.mission.now) flyer.seat.board (g.P.Look.view flyer.port)) c.loop.flyers c.in-Some.number
+      (record { seat = c.step.new.self; port = c.step.new.port }) c.step.ensures.drives c.loop.invariant.drives;
   follows = side_set (λ before after. g.P.Look.follows before.port [] after.port) c.args.flyers.now c.loop.flyers c.in-Some.number
-      c.index-flyers-number.result (record { board = c.step.new.self; port = c.step.new.port }) c.loop.invariant.follows
+      c.index-flyers-number.result (record { seat = c.step.new.self; port = c.step.new.port }) c.loop.invariant.follows
       c.in-Some.ensures.found.there
       (λ x old. g.met.P.Look.follows_on x.port _ c.step.new.port [] [] old c.step.ensures.follows);
 }

@@ -4,10 +4,10 @@ use Rattle.sift_threads.specs.Crews.{AreLeftOf}
 use Rattle.sift_threads.proofs.seating.leave_all.Given as goal
 
 -- what is left of the seats so far
-abbrev pub invariant-loop-seat : goal.invariant-loop-seat
-invariant-loop-seat g l = record {
+abbrev pub invariant-loop-place : goal.invariant-loop-place
+invariant-loop-place g l = record {
   left : AreLeftOf l.yielded l.tokens.items l.accounts.items l.rogues.items;
-  all : l.yielded ++ l.seat-iterator.rest.items ≡ l.fn.home.items;
+  all : l.yielded ++ l.place-iterator.rest.items ≡ l.fn.home.items;
   tokens : (vec_len l.tokens ≡ length l.yielded) × (vec_len l.fn.home ≤ vec_capacity l.tokens);
   accounts : (vec_len l.accounts ≡ length l.yielded) × (vec_len l.fn.home ≤ vec_capacity l.accounts);
   rogues : (vec_len l.rogues ≡ length l.yielded) × (vec_len l.fn.home + length (into_iter_items l.fn.beyond) ≤ vec_capacity l.rogues);

@@ -7,7 +7,7 @@ pub loop-digit-init : goal.loop-digit-init
 loop-digit-init g c = record {
   flies = (_, c.in_ok-machine.ensures.flies);
   rogues = c.in_ok-rogues.ensures;
-  left = c.in_ok-machine.ensures.calls _ c.of-left.ensures;
+  left = c.in_ok-machine.ensures.left;
 }
 
 pub loop-digit-preserved : goal.loop-digit-preserved

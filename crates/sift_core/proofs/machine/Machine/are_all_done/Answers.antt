@@ -1,7 +1,8 @@
 use Rattle.std.proofs.Common.{◌<◌, slice_index, sym, ap, arith}
 use Rattle.std.proofs.lemmas.Bool.{eqb-false}
 use Rattle.sift_base.specs.declared.slots.Layout.{Layout}
-use Rattle.sift_mission.specs.Parts.{flown_of}
+use Rattle.sift_mission.specs.Parts.{data_of, flown_of}
+use Rattle.sift_core.specs.Courses.{lefts}
 use Rattle.sift_core.specs.Machines.{layout_of}
 use Rattle.sift_core.proofs.MachineSteps.{unit_below}
 use Rattle.sift_core.proofs.Turning.{unit_there}
@@ -21,7 +22,7 @@ returns-then-not-is_spent-clause-open c = λ same done.
     let low : c.numbered-unit.result < (layout_of c.args.self.now).units =
     (let units = ap (λ (l : Layout). l.units) c.layout-number-end.ensures in omega (arith, c.numbered-unit.ensures, c.loop-number-test.true)) in
     let there = unit_there (flown_of c.args.mission.now) c.args.self.now c.numbered-unit.result c.requires.flies low in
-    eqb-false (slice_index c.args.left.now c.numbered-unit.result) 0 (sym c.if-not-is_spent.ensures) (done c.numbered-unit.result there).1
+    eqb-false (slice_index (lefts (data_of c.args.mission.now) c.args.self.now) c.numbered-unit.result) 0 (sym c.if-not-is_spent.ensures) (done c.numbered-unit.result there).1
 
 -- none is left
 pub returns-clause-done : goal.returns-clause-done
@@ -35,3 +36,8 @@ returns-clause-done c = λ same u there.
 -- the core is lawful
 pub number_of-requires-clause-lawful : goal.number_of-requires-clause-lawful
 number_of-requires-clause-lawful c = (c.requires.flies.0, c.requires.flies.1.lawful)
+
+-- the unit is one of the machine
+pub is_spent-requires-clause-unit : goal.is_spent-requires-clause-unit
+is_spent-requires-clause-unit c =
+    let units = ap (λ (l : Layout). l.units) c.layout-number-end.ensures in omega (arith, c.numbered-unit.ensures, c.loop-number-test.true)

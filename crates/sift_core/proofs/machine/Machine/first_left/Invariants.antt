@@ -1,7 +1,9 @@
 use Rattle.std.proofs.Common.{◌≡◌, ℕ, ◌<◌, ◌≤◌, slice_index}
+use Rattle.sift_mission.specs.Parts.{data_of}
+use Rattle.sift_core.specs.Courses.{lefts}
 use Rattle.sift_core.specs.Machines.{layout_of}
 use Rattle.sift_core.proofs.machine.Machine.first_left.Given as goal
 
 -- no call is left of the units below the number
 abbrev pub invariant-loop-number : goal.invariant-loop-number
-invariant-loop-number l = (l.number ≤ (layout_of l.fn.self).units) × ((p : ℕ) → p < l.number → slice_index l.fn.left p ≡ 0)
+invariant-loop-number l = (l.number ≤ (layout_of l.fn.self).units) × ((p : ℕ) → p < l.number → slice_index (lefts (data_of l.fn.mission) l.fn.self) p ≡ 0)

@@ -1,5 +1,0 @@
-use Rattle.sift_rogue.proofs.Draws.{are_the_draws}
-use Rattle.sift_rogue.proofs.laws.drawn_storms_are_the_draws.Goals as goal
-
-pub returns : goal.returns
-returns c = are_the_draws

@@ -1,0 +1,2 @@
+-- What follows from the definitions, with its proofs: what the proofs of crates above may cite.
+pub mod Ends
