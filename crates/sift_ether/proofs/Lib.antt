@@ -2,6 +2,7 @@ pub mod Dealing
 pub mod Deeds
 pub mod Landing
 pub mod Lists
+pub mod Order
 pub mod Puts
 pub mod Seated
 pub mod Seats

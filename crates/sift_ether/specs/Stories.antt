@@ -53,3 +53,7 @@ places_of (x ∷ xs) u = if u == x.unit then length xs ∷ places_of xs u else p
 -- the unit's part of the story
 abbrev pub part_of : List Doing → ℕ → Chronicle
 part_of story u = record { unit = u; deeds = deeds_of story u; places = places_of story u }
+
+-- where each unit has the same part of two stories, they are one: the places leave no other order
+abbrev pub StoriesHaveOneOrder : Type 0
+StoriesHaveOneOrder = (xs ys : List Doing) → ((u : ℕ) → part_of xs u ≡ part_of ys u) → xs ≡ ys

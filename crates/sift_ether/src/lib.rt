@@ -12,6 +12,8 @@ mod seat;
 mod steps;
 
 pub use ether::Ether;
-pub use laws::{the_rule_is_the_lawful_core, tokens_come_back};
+pub use laws::{
+    stories_have_one_order, the_rule_is_the_lawful_core, tokens_come_back, tokens_may_be_sent,
+};
 pub use rule::{Chronicle, Deed};
 pub use seat::{EtherSeat, Token};
