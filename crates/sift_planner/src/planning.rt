@@ -1,10 +1,7 @@
 //! Plans of tables, for one size of configuration and for all.
 
-ghost use Rattle.std.specs.Prelude.{IfErr, IfOk, ◌≡◌, ◌<◌, ℕ, map};
-ghost use Rattle.std.specs.List.{All};
+ghost use Rattle.std.specs.Prelude.{IfErr, IfOk, ◌≡◌, map};
 ghost use Rattle.sift_base.specs.Shapes.{shapes_of};
-ghost use Rattle.sift_planner.specs.Drafts.{IsKept, drafted, rows_in};
-ghost use Rattle.sift_planner.specs.Earliest.{IsLeastOpen, IsOpen};
 ghost use Rattle.sift_planner.specs.Plans.{ArePlannable, HasNoRoom, IsPlan, IsWithinLimits, wanted};
 ghost use Rattle.sift_planner.specs.Refused.{IfNoRoom, stop_at};
 ghost use Rattle.sift_table.specs.Rules.{IsGood};
@@ -62,22 +59,12 @@ pub fn plan(
     let mut draft = Draft::new(alloc, size, period, copies);
     for (t, task) in shapes.tasks.iter().enumerate() {
         // Rows that stand aren't moved, so the first task without room decides.
-        let run = subframe_for(&draft, t as u8, &task.needs)?;
+        let Some(run) = draft.first_open(&task.needs) else {
+            return Err(PlanStop::NoRoom { task: t as u8 });
+        };
         draft.add_row(alloc, run)?;
     }
     Ok(draft.table)
-}
-
-/// The first subframe that is open for the next task, which reads these tasks of the same frame; or it has no room. It asks
-/// for no memory, so none is wanting.
-fn subframe_for(draft: &Draft, task: u8, needs: &[u8]) -> Result<u8, PlanStop>
-    requires kept { IsKept draft.now }
-    requires needs { All (λ needed. needed < rows_in draft.now) needs.now }
-    ensures least { IfOk result (IsLeastOpen (drafted draft.now) draft.now.executors needs.now (rows_in draft.now)) }
-    ensures shut { IfErr result (λ stop. (stop ≡ PlanStop.NoRoom task) × ((subframe : ℕ) →
-        ¬ IsOpen (drafted draft.now) draft.now.executors needs.now (rows_in draft.now) subframe)) }
-{
-    draft.first_open(needs).ok_or(PlanStop::NoRoom { task })
 }
 
 // ---- all sizes

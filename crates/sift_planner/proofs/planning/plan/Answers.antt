@@ -8,8 +8,8 @@ use Rattle.sift_planner.proofs.Steps.{planned_next, planned_whole, shape_there}
 use Rattle.sift_planner.proofs.planning.plan.Goals as goal
 
 -- what a task reads has its row
-pub subframe_for-requires-clause-needs : goal.subframe_for-requires-clause-needs
-subframe_for-requires-clause-needs c = λ k d low.
+pub first_open-requires-clause-needs : goal.first_open-requires-clause-needs
+first_open-requires-clause-needs c = λ k d low.
     let shapes = c.args.shapes.now in
     let items = c.deref-task-items.ensures.value in
     let there : c.loop-t.t < length shapes.tasks.items = rw (← items) c.loop-t-test.true in
@@ -32,9 +32,9 @@ loop-t-preserved c =
     let many = length-map shapes.tasks.items shape_of in (
       c.in_ok-add_row.ensures.kept,
       c.in_ok-add_row.ensures.executors ∙ c.loop-t.invariant.1,
-      planned_next (shapes_of shapes) (wanted c.args.size c.args.period c.args.copies) c.loop-t.t (rows_in c.loop-t.draft) c.loop-t.draft.executors c.in_ok-run.run
+      planned_next (shapes_of shapes) (wanted c.args.size c.args.period c.args.copies) c.loop-t.t (rows_in c.loop-t.draft) c.loop-t.draft.executors c.in-Some.run'
           c.deref.result.now (drafted c.loop-t.draft) (drafted c.add_row.new.self) c.requires.tasks (omega (arith, there, many)) c.loop-t.invariant.2
-          c.loop-t.invariant.2.runs c.loop-t.invariant.1 needs c.in_ok-run.ensures.least c.in_ok-add_row.ensures.row,
+          c.loop-t.invariant.2.runs c.loop-t.invariant.1 needs c.in-Some.ensures.least c.in_ok-add_row.ensures.row,
     )
 
 -- all tasks have their rows
@@ -52,8 +52,8 @@ returns-clause-good c =
     (omega (arith, c.loop-t-test.false, ap length c.deref-task-items.ensures.value)) in
     c.plans_are_good.ensures (shapes_of c.args.shapes.now) w table c.requires.limits whole
 
-pub returns-in_err-run-clause-no_room : goal.returns-in_err-run-clause-no_room
-returns-in_err-run-clause-no_room c = grind (arith, common_steps)
+pub returns-in_default-clause-no_room : goal.returns-in_default-clause-no_room
+returns-in_default-clause-no_room c = grind (arith, common_steps)
 
 pub overflow_cast-result : goal.overflow_cast-result
 overflow_cast-result c = grind (arith, common_steps)
