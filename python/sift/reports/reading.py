@@ -108,7 +108,7 @@ class Flight:
         """Whether the last frame has it."""
         return self.frames[-1].margin
 
-    def other_votes(self, schedule: Any) -> Dict[int, FrozenSet[Tuple[int, ...]]]:
+    def other_votes(self, schedule: Any) -> Dict[int, FrozenSet[Any]]:
         """Of the frames in which some unit votes other words than a schedule has due the words of each, by the frame's number."""
         votes = [frame.votes for frame in self.frames]
         return {number: told for number, (told, due) in enumerate(zip(votes, schedule.due)) if told != due and told}
