@@ -48,11 +48,12 @@ class Pool:
 
     def end(self):
         """Ends its processes, where there are some."""
-        import signal  # which takes as long to load as a flight, and is wanted by none or by each process for itself
+        if self.children:
+            import signal  # which takes as long to load as a flight, and is wanted by none or by each process for itself
 
-        for child in self.children:
-            os.kill(child, signal.SIGKILL)
-        self.statuses()
+            for child in self.children:
+                os.kill(child, signal.SIGKILL)
+            self.statuses()
 
     def statuses(self):
         """The statuses of the processes, which are waited for."""

@@ -11,7 +11,7 @@ from sift.campaigns.findings import plain
 from sift.campaigns.flights import flyer_of
 from sift.campaigns.flyer import DIVIDER, NoFlight
 from sift.campaigns.flying import flyer_for, library_of
-from sift.campaigns.kits import KEPT, can_fly, kit_of, kits_of, new_kit, tree_taken_away
+from sift.campaigns.kits import KEPT, can_fly, kit_of, kits_of, new_kit
 from sift.campaigns.promised import contradictions, promises_of
 from sift.campaigns.records import Reading, Records, written
 from sift.campaigns.rows import counted
@@ -146,10 +146,11 @@ def begin(options, kit, undo):
     chosen, ideal = chosen_for(options, flyer, base, {"outline": outline, "keep": own, "required": required})
     records = Records(options.out, Campaign(kit, (chosen, base, ideal)))
     pool = pool_of(records, flyer, options, records.campaign.batches()) if chosen["here"] else None
-    if pool:
-        undo.callback(pool.end)
+    ends = pool.end if pool else lambda: None
+    undo.callback(ends)
     fill(kit, options, base, ideal, chosen)
     undo.pop_all()
+    undo.callback(ends)  # as ever, while the kit stays
     for path in older:
         taken_away(path)
     return 0 if options.keep else len(mission.faults), records, pool
@@ -158,7 +159,9 @@ def begin(options, kit, undo):
 def taken_away(path):
     """Takes a file or a folder of an older campaign away, where it is there."""
     if os.path.isdir(path):
-        tree_taken_away(path)
+        import shutil  # which a campaign does without that finds none
+
+        shutil.rmtree(path)
     elif os.path.lexists(path):
         os.remove(path)
 

@@ -1,8 +1,9 @@
 """Prints documents: the one place where the tools write TOML."""
 try:
-    from _json import encode_basestring as quoted  # what json writes a text by, which takes as long to load as a flight
+    # What json writes a text by, which takes as long to load as a flight.
+    from _json import encode_basestring as quoted  # type: ignore[attr-defined]
 except ImportError:
-    from json.encoder import encode_basestring as quoted
+    from json.encoder import encode_basestring as quoted  # type: ignore[attr-defined]
 
 
 def value_of(value):
