@@ -1,3 +1,5 @@
 pub mod Given
 pub mod Order
+pub mod Flown
+pub mod Told
 pub mod laws
