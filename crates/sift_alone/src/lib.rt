@@ -9,7 +9,7 @@ mod resting;
 mod top;
 
 pub use fleet::Fleet;
-pub use flying::tell_alone;
+pub use flying::{tell_alone, tell_over_buses};
 pub use law::{storms_give_what_they_draw, strays_are_given};
 pub use resting::storms;
 pub use top::{sift_alone, sift_by};

@@ -22,7 +22,7 @@ use Rattle.sift_bus_port.specs.Telling as telling
 use Rattle.sift_bus_port.specs.declared.constant.Constant.{Constant}
 use Rattle.sift_bus_port.specs.declared.log.BusLog.{BusLog}
 use Rattle.sift_bus_port.specs.laws.Counting.{same_places, entry_there}
-use Rattle.sift_bus_jobs.specs.Numbers.{BusNumbers}
+use Rattle.sift_bus_jobs.specs.Numbers.{BusNumbers, bus_of}
 use Rattle.sift_bus_jobs.specs.Wrong.{carried_for, is_changed, is_wrong_at, wrong_for, wrong_in}
 
 -- ---- counts
@@ -72,10 +72,6 @@ pub frames_are : (m : FlownMission) (fl : Flight) (layout : Layout) (faulty : �
     AreLogsOf AllowsConstant m fl layout faulty buses logs → All (λ log. (log_of log).ranges.frames ≡ m.frames) logs
 frames_are m fl layout faulty buses logs are u l low =
     ap (λ (r : Ranges). r.frames) (are.each u (record { from = 0; value = None }) l (omega (arith, low, are.count))).ranges
-
--- the bus that options ask for
-abbrev pub bus_of : BusNumbers → Constant
-bus_of job = record { from = job.from; value = job.value }
 
 module _ (job : BusNumbers) (m : FlownMission) (fl : Flight) (layout : Layout) (numbered : IsNumbered m)
     (slots : m.slots ≡ slot_count layout) (units : length m.units ≡ layout.units) (tells : LogsTellWhatWasHeard AllowsConstant) where

@@ -56,18 +56,18 @@ module _ (flies : PartsMakeItFlyable) (alike : RoundFlightsAreAlike) (texts : Al
   -- so there is one reply for a mission
   pub one_reply : (job : BusNumbers) (bytes : List ℕ) (d : MissionData) (one other : Reply) → States bytes d → BusesGives job d one →
       BusesGives job d other → one ≡ other
-  one_reply job bytes d one other states (inl (fl, flight, is)) (inl (gl, flight', is')) =
-      is ∙ (ap done (one_text job d fl gl (fit states.0 d states.2) flight flight') ∙ sym is')
-  one_reply job bytes d one other states (inl (fl, flight, is)) (inr ((u, from, there, some), is')) =
+  one_reply job bytes d one other states (inl (text, (fl, flight, told_is), is)) (inl (text', (gl, flight', told_is'), is')) =
+      is ∙ (ap done (told_is ∙ (one_text job d fl gl (fit states.0 d states.2) flight flight' ∙ sym told_is')) ∙ sym is')
+  one_reply job bytes d one other states (inl (text, (fl, flight, told_is), is)) (inr ((u, from, there, some), is')) =
       absurd (no_storm (flown d) u from (flight.calm u there) some)
-  one_reply job bytes d one other states (inr ((u, from, there, some), is)) (inl (gl, flight', is')) =
+  one_reply job bytes d one other states (inr ((u, from, there, some), is)) (inl (text, (gl, flight', told_is), is')) =
       absurd (no_storm (flown d) u from (flight'.calm u there) some)
   one_reply job bytes d one other states (inr (stormy, is)) (inr (stormy', is')) = is ∙ sym is'
 
 -- its status is 0 or 15
 pub own : (job : BusNumbers) (d : MissionData) (came : Reply) → BusesGives job d came →
     Contains (done_status ∷ storm_status ∷ []) came.status × ¬ Contains shared_statuses came.status
-own job d came (inl (fl, flight, is)) = subst
+own job d came (inl (text, tells, is)) = subst
     (λ (r : Reply). Contains (done_status ∷ storm_status ∷ []) r.status × ¬ Contains shared_statuses r.status) (sym is) ((0, lit< tt, refl), grind arith)
 own job d came (inr (stormy, is)) = subst
     (λ (r : Reply). Contains (done_status ∷ storm_status ∷ []) r.status × ¬ Contains shared_statuses r.status) (sym is) ((1, lit< tt, refl), grind arith)

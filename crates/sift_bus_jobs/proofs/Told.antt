@@ -12,10 +12,10 @@ use Rattle.sift_mission.specs.Data.{MissionData}
 use Rattle.sift_mission.specs.Fits.{IsNumbered}
 use Rattle.sift_mission.specs.Flown.{flown}
 use Rattle.sift_mission.specs.PartsFit.{PartsFit}
-use Rattle.sift_bus_jobs.specs.Numbers.{BusNumbers}
+use Rattle.sift_bus_jobs.specs.Numbers.{BusNumbers, bus_of}
 use Rattle.sift_bus_jobs.specs.Text.{words_text}
 use Rattle.sift_bus_jobs.specs.Wrong.{wrong_in}
-use Rattle.sift_bus_jobs.proofs.Counted.{bus_of, counts_are}
+use Rattle.sift_bus_jobs.proofs.Counted.{counts_are}
 use Rattle.sift_bus_jobs.proofs.Texts.{same_text}
 
 module _ (job : BusNumbers) (d : MissionData) (fl : Flight) (fit : PartsFit d) (numbered : IsNumbered (flown d)) (tells : LogsTellWhatWasHeard AllowsConstant)

@@ -43,10 +43,14 @@ told job mission flight =
 
 -- ---- what it gives
 
+-- the text tells it of a flight of the mission, which has no storm
+abbrev pub TellsBuses : BusNumbers → MissionData → (text : List ℕ) → Type 0
+TellsBuses job mission text = (flight : Flight) × FliesCalm mission flight × (text ≡ told job mission flight)
+
 -- the text of a flight of the mission, where it has no storm; that it has one
 abbrev pub BusesGives : BusNumbers → MissionData → Reply → Type 0
 BusesGives job mission came =
-    ((flight : Flight) × FliesCalm mission flight × (came ≡ done (told job mission flight)))
+    ((text : List ℕ) × TellsBuses job mission text × (came ≡ done text))
     ⊎ (HasStorm (flown mission) × (came ≡ storm))
 
 -- the statuses of its replies

@@ -1,6 +1,7 @@
 -- What options ask of `buses`: which bus is faulty, from which frame on, and what it carries then.
 use Rattle.std.specs.Prelude.{ℕ, ◌<◌, ◌≤◌, Option, Some, None, IfSome, option_map}
 use Rattle.sift_bus_port.specs.Buses.{bus_count}
+use Rattle.sift_bus_port.specs.declared.constant.Constant.{Constant}
 use Rattle.sift_options.specs.Options.{within}
 use Rattle.sift_options.specs.declared.setting.Options.{Options}
 
@@ -9,6 +10,10 @@ pub record BusNumbers : Type 0 where
   pub bus : ℕ
   pub from : ℕ
   pub value : Option ℕ
+
+-- the bus that carries so
+abbrev pub bus_of : BusNumbers → Constant
+bus_of numbers = record { from = numbers.from; value = numbers.value }
 
 -- the last of three buses
 abbrev pub last_bus : ℕ

@@ -1,24 +1,26 @@
 //! The command `buses`.
 
-ghost use Rattle.std.specs.Prelude.{◌≡◌, IfOk, false, string_bytes, true};
-ghost use Rattle.sift_bus_jobs.specs.Buses.{BusesGives, FliesCalm, HasStorm, buses_statuses, told};
-ghost use Rattle.sift_bus_jobs.specs.Numbers.{BusNumbers, buses_job_of, word_given};
-ghost use Rattle.sift_flight.specs.Flight.{Flight as Flown, HasNoStorms};
+ghost use Rattle.std.specs.Prelude.{◌≡◌, ◌<◌, IfOk, false, replicate, string_bytes, true};
+ghost use Rattle.sift_bus_jobs.specs.Buses.{BusesGives, FliesCalm, HasStorm, TellsBuses, buses_statuses};
+ghost use Rattle.sift_bus_jobs.specs.Numbers.{BusNumbers, bus_of, buses_job_of, word_given};
+ghost use Rattle.sift_bus_port.specs.Buses.{AllowsConstant, bus_count};
+ghost use Rattle.sift_bus_port.specs.Flown.{AreLogsOf};
+ghost use Rattle.sift_flight.specs.Flight.{HasNoStorms};
+ghost use Rattle.sift_flight.specs.Told.{IsLogged, told};
 ghost use Rattle.sift_load.specs.Loads.{mission_duty};
 ghost use Rattle.sift_mission.specs.Parts.{data_of, flown_of};
 ghost use Rattle.sift_reply.specs.Duty.{GivesOne, HasOwnStatuses};
 
 use crate::counts::push_words;
-use crate::flier::BusFlier;
 use sift_base::{NoMemory, UnitId, Word};
-use sift_bus_port::{Constant, logs_tell_what_was_heard};
-use sift_flight::{round_flights_are_alike, round_flights_are_whole};
+use sift_bus_port::{BusLog, Constant, logs_tell_what_was_heard};
+use sift_flight::{Flight, round_flights_are_alike, round_flights_are_whole};
 use sift_load::{
     DOCUMENT_LIMIT, MissionJob, begin_for_bytes, loading_gives_one, loading_has_own_statuses,
 };
 use sift_mission::{Mission, a_mission_fits, fitting_parts_make_a_flight};
 use sift_options::{Options, within};
-use sift_reply::{Begun, Job, NoWork, Reply, Work};
+use sift_reply::{Begun, Job, Reply, Work};
 use sift_report::{Version, alike_flights_have_one_text, report_text};
 use sift_scenario::stated_missions_fit;
 use std::alloc::Global;
@@ -60,44 +62,49 @@ impl BusesJob {
         Some(BusesJob { bus, from, value })
     }
 
-    /// The reply for a mission: what is told of its flight over three buses, or that it has a storm.
-    fn reply_for<F: BusFlier>(
-        self,
-        alloc: Global,
-        flier: F,
-        mission: &Mission,
-    ) -> Result<Reply, NoMemory>
-        ensures { IfOk result (BusesGives self (data_of mission.now)) }
+    /// The number of the faulty bus.
+    pub fn faulty(self) -> u8
+        ensures number { result ≡ self.bus }
+        ensures low { result < bus_count }
     {
-        if has_storm(mission) {
-            return Ok(Reply::fixed(15, "storm\n"));
-        }
-        let text = self.text_of(alloc, flier, mission)?;
-        Ok(Reply::done(text))
+        self.bus
     }
 
-    /// The report of a flight over three buses, and what the logs of the faulty one tell.
-    fn text_of<F: BusFlier>(
+    /// Buses that carry as the faulty one does, one for each unit of a mission.
+    pub fn buses(self, alloc: Global, mission: &Mission) -> Result<Vec<Constant>, NoMemory>
+        ensures { IfOk result (λ buses. buses.items ≡ replicate mission.now.layout.units (bus_of self)) }
+    {
+        let units = usize::from(mission.parts().layout.units);
+        let mut buses = Vec::with_capacity(alloc, units)?;
+        for _ in 0..units {
+            buses.push(Constant {
+                from: self.from,
+                value: self.value,
+            })?;
+        }
+        Ok(buses)
+    }
+
+    /// The text that tells of a flight over three buses: its report, and what the logs of the faulty one tell.
+    pub fn text(
         self,
         alloc: Global,
-        flier: F,
         mission: &Mission,
+        flight: &Flight,
+        logs: &[BusLog],
     ) -> Result<String, NoMemory>
-        requires calm { HasNoStorms (flown_of mission.now) }
-        ensures { IfOk result (λ text. (flight : Flown) × FliesCalm (data_of mission.now) flight
-            × (string_bytes text ≡ told self (data_of mission.now) flight)) }
+        requires logged { IsLogged (flown_of mission.now) mission.now.layout flight.now }
+        requires flown { FliesCalm (data_of mission.now) (told (flown_of mission.now) flight.now) }
+        requires logs { AreLogsOf AllowsConstant (flown_of mission.now) (told (flown_of mission.now) flight.now)
+            mission.now.layout self.bus (replicate mission.now.layout.units (bus_of self)) logs.now }
+        ensures { IfOk result (λ text. TellsBuses self (data_of mission.now) (string_bytes text)) }
     {
         let frames = mission.parts().frames;
-        let bus = Constant {
-            from: self.from,
-            value: self.value,
-        };
         round_flights_are_whole();
         a_mission_fits(mission);
         logs_tell_what_was_heard::<Constant>();
-        let (flight, logs) = flier.fly_buses(alloc, mission, self.bus, bus)?;
-        let mut text = report_text(alloc, mission, &flight, Version::Two)?;
-        push_words(&mut text, self.bus, frames, &logs)?;
+        let mut text = report_text(alloc, mission, flight, Version::Two)?;
+        push_words(&mut text, self.bus, frames, logs)?;
         Ok(text)
     }
 }
@@ -112,28 +119,51 @@ fn word_given(given: Option<u64>) -> Option<Option<Word>>
     }
 }
 
-impl<F: BusFlier, W: Work> MissionJob<F, W> for BusesJob {
+/// A flight over three buses of a mission without storms that is still to be flown, and told of.
+#[derive(Drop)]
+pub struct BusesOrder {
+    pub job: BusesJob,
+    pub mission: Mission,
+    pub ghost calm: { HasNoStorms (flown_of mission) },
+}
+
+impl Work for BusesOrder {
+    ghost use Rattle.sift_bus_jobs.specs.Buses.{TellsBuses};
+    ghost use Rattle.sift_mission.specs.Parts.{data_of};
+
+    ghost gives = { λ order. TellsBuses order.job (data_of order.mission) };
+}
+
+impl<M: Drop> MissionJob<M, BusesOrder> for BusesJob {
     ghost use Rattle.sift_bus_jobs.specs.Buses.{BusesGives};
 
-    ghost gives_for = { λ flier. BusesGives };
+    ghost gives_for = { λ means. BusesGives };
 
-    fn begin_for(self, alloc: Global, flier: F, mission: Mission) -> Result<Begun<W>, NoMemory> {
-        Ok(Begun::Replied(self.reply_for(alloc, flier, &mission)?))
+    fn begin_for(
+        self,
+        _alloc: Global,
+        _means: M,
+        mission: Mission,
+    ) -> Result<Begun<BusesOrder>, NoMemory> {
+        if has_storm(&mission) {
+            return Ok(Begun::Replied(Reply::fixed(15, "storm\n")));
+        }
+        Ok(Begun::Left(BusesOrder { job: self, mission }))
     }
 }
 
-impl<F: BusFlier, W: Work> Job<F, W> for BusesJob {
+impl<M: Drop> Job<M, BusesOrder> for BusesJob {
     ghost use Rattle.sift_bus_jobs.specs.Buses.{BusesGives};
     ghost use Rattle.sift_load.specs.Loads.{mission_duty};
 
-    ghost duty = { λ flier job. mission_duty (BusesGives job) };
+    ghost duty = { λ means job. mission_duty (BusesGives job) };
 
     fn limit(self) -> Option<u32> {
         Some(DOCUMENT_LIMIT)
     }
 
-    fn begin(self, alloc: Global, flier: F, bytes: &[u8]) -> Result<Begun<W>, NoMemory> {
-        begin_for_bytes(alloc, flier, self, bytes)
+    fn begin(self, alloc: Global, means: M, bytes: &[u8]) -> Result<Begun<BusesOrder>, NoMemory> {
+        begin_for_bytes(alloc, means, self, bytes)
     }
 }
 
@@ -158,18 +188,18 @@ fn has_storm(mission: &Mission) -> bool
 
 /// `buses` ends with 0, with 15 where the mission has a storm, or with the status of bytes that
 /// state no mission.
-pub fn buses_has_own_statuses<F: BusFlier>()
-    ensures { (flier : F) (job : BusNumbers) → HasOwnStatuses (mission_duty (BusesGives job)) buses_statuses }
+pub fn buses_has_own_statuses()
+    ensures { (job : BusNumbers) → HasOwnStatuses (mission_duty (BusesGives job)) buses_statuses }
 {
-    loading_has_own_statuses::<F, NoWork, BusesJob>();
+    loading_has_own_statuses::<(), BusesOrder, BusesJob>();
 }
 
 /// `buses` gives one reply to each input: all flights of a mission without storms tell the same, and
 /// one with a storm isn't flown.
-pub fn buses_gives_one<F: BusFlier>()
-    ensures { (flier : F) (job : BusNumbers) → GivesOne (mission_duty (BusesGives job)) }
+pub fn buses_gives_one()
+    ensures { (job : BusNumbers) → GivesOne (mission_duty (BusesGives job)) }
 {
-    loading_gives_one::<F, NoWork, BusesJob>();
+    loading_gives_one::<(), BusesOrder, BusesJob>();
     fitting_parts_make_a_flight();
     round_flights_are_alike();
     alike_flights_have_one_text();

@@ -4,7 +4,5 @@
 
 mod buses;
 mod counts;
-mod flier;
 
-pub use buses::{BusesJob, buses_gives_one, buses_has_own_statuses};
-pub use flier::{BusFlier, one_each};
+pub use buses::{BusesJob, BusesOrder, buses_gives_one, buses_has_own_statuses};

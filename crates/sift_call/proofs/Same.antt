@@ -1,7 +1,8 @@
 -- That what is owed to an input is one reply.
 use Rattle.std.proofs.Common.{◌≡◌, ℕ, ◌⊎◌, List, inl, inr, sym, ◌∙◌, subst}
 use Rattle.sift_rogue.specs.Rogues.{AllowsDrawn}
-use Rattle.sift_alone.specs.Given.{AreGiven, resting_storms}
+use Rattle.sift_alone.specs.Flown.{flying_with}
+use Rattle.sift_alone.specs.Given.{resting_storms}
 use Rattle.sift_commands.specs.Command.{OneCommand, duty_of}
 use Rattle.sift_commands.specs.OneReply.{CommandsGiveOne, FliesInput}
 use Rattle.sift_commands.specs.declared.command.Command.{Command}
@@ -17,7 +18,7 @@ use Rattle.sift_call.specs.Laws.{AskForCalm, CallsTellWhatTheProgramWrites}
 
 -- what each command of the program has to do
 abbrev duty : Command → Duty
-duty = duty_of (AreGiven AllowsDrawn resting_storms)
+duty = duty_of (flying_with AllowsDrawn resting_storms)
 
 -- what a command that flies its input takes for it is all of it
 calm : (command : Command) (bytes : List ℕ) → (FliesInput command → AreCalm bytes) → FliesInput command → AreCalm (input_within (duty command).limit bytes)
@@ -33,7 +34,7 @@ calm (Buses job) bytes are flies = absurd flies
 calm (Byz job) bytes are flies = absurd flies
 calm (Clocks job) bytes are flies = absurd flies
 
-module _ (one_command : OneCommand) (give_one : CommandsGiveOne (AreGiven AllowsDrawn resting_storms)) (owe_one : (command : Command) → GivesOneOwesOne (duty command)) where
+module _ (one_command : OneCommand) (give_one : CommandsGiveOne (flying_with AllowsDrawn resting_storms)) (owe_one : (command : Command) → GivesOneOwesOne (duty command)) where
   -- two replies that are owed to calm bytes are one
   one : (words : List (List ℕ)) (bytes : List ℕ) (a b : Reply) → AskForCalm words bytes
       → IsOwed program_commands words (λ owing. IsOwedTo owing bytes) a → IsOwed program_commands words (λ owing. IsOwedTo owing bytes) b → a ≡ b

@@ -3,7 +3,8 @@ use Rattle.std.proofs.Common.{◌≡◌, ◌≤◌, ◌<◌, ℕ, ◌⊎◌, inl
 use Rattle.std.proofs.lemmas.List.Elements.{All-contains}
 use Rattle.std.proofs.lemmas.Grind.{common_steps}
 use Rattle.sift_rogue.specs.Rogues.{AllowsDrawn}
-use Rattle.sift_alone.specs.Given.{AreGiven, resting_storms}
+use Rattle.sift_alone.specs.Flown.{flying_with}
+use Rattle.sift_alone.specs.Given.{resting_storms}
 use Rattle.sift_commands.specs.Command.{duty_of}
 use Rattle.sift_commands.specs.Statuses.{CommandsHaveOwnStatuses, own_statuses}
 use Rattle.sift_commands.specs.declared.command.Command.{Command}
@@ -36,8 +37,8 @@ owed duty statuses input reply own all (Some limit) is owes = by (rw is at owes)
     by (inl (short, gives)) = All-contains (λ status. status ≤ last_status) statuses reply.status all (own.among input reply gives)
     by (inr (long, said)) = rw said (omega arith)
 
-pub known : CommandsHaveOwnStatuses (AreGiven AllowsDrawn resting_storms)
+pub known : CommandsHaveOwnStatuses (flying_with AllowsDrawn resting_storms)
     → (words : List (List ℕ)) (input : List ℕ) (status : ℕ) (text : List ℕ) → IsTold words input status text → status ≤ last_status
 known own words input status text (inl (none, is)) = let two : status ≡ 2 = ap (λ (r : Reply). r.status) is in omega (arith, two)
 known own words input status text (inr (command, asks, owes)) =
-    owed (duty_of (AreGiven AllowsDrawn resting_storms) command) (own_statuses command) input (record { status = status; text = text }) (own command) (low command) _ refl owes
+    owed (duty_of (flying_with AllowsDrawn resting_storms) command) (own_statuses command) input (record { status = status; text = text }) (own command) (low command) _ refl owes

@@ -4,7 +4,8 @@ use Rattle.std.specs.Io.KnownBytes.{Appends}
 use Rattle.sift_io.specs.Flow.{Inflow, Rose}
 use Rattle.sift_rogue.specs.Rogues.{AllowsDrawn}
 use Rattle.sift_rogue.specs.declared.storm.Storm.{Storm}
-use Rattle.sift_alone.specs.Given.{AreGiven, resting_storms}
+use Rattle.sift_alone.specs.Flown.{flying_with}
+use Rattle.sift_alone.specs.Given.{resting_storms}
 use Rattle.sift_commands.specs.Command.{commands}
 use Rattle.sift_reply.specs.Duty.{IsOwedTo}
 use Rattle.sift_reply.specs.Promise.{IsCertain, IsOwed}
@@ -30,8 +31,8 @@ module _ (words : List (List ℕ)) (before after : Inflow) (old new : RoomOut) (
 
   -- neither side failed, and memory was there: what was given is told
   pub told : (input : List ℕ) → before.left ≡ Some input → before.faults ≡ 0 → after.faults ≡ 0 → bytes_of old ≡ [] → status ≢ sink_fault_status → status ≢ no_memory_status
-      → (storms : List Storm) → storms ≡ resting_storms → IsCertain (commands (AreGiven AllowsDrawn storms)) words came went status → IsTold words input status (bytes_of new)
-  told input tells calm sure empty nine ten storms rest certain = by (subst (λ (them : List Storm). IsCertain (commands (AreGiven AllowsDrawn them)) words came went status) rest certain input tells)
+      → (storms : List Storm) → storms ≡ resting_storms → IsCertain (commands (flying_with AllowsDrawn storms)) words came went status → IsTold words input status (bytes_of new)
+  told input tells calm sure empty nine ten storms rest certain = by (subst (λ (them : List Storm). IsCertain (commands (flying_with AllowsDrawn them)) words came went status) rest certain input tells)
     where
       by : ((reply : Reply) × IsOwed program_commands words (λ duty. IsOwedTo duty input) reply × IsGiven went reply status)
           ⊎ (IsGiven went read_fault status × Rose before.faults after.faults)

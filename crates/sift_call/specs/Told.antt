@@ -1,7 +1,8 @@
 -- What a call over memory tells.
 use Rattle.std.specs.Prelude.{ℕ, List}
 use Rattle.sift_rogue.specs.Rogues.{AllowsDrawn}
-use Rattle.sift_alone.specs.Given.{AreGiven, resting_storms}
+use Rattle.sift_alone.specs.Flown.{flying_with}
+use Rattle.sift_alone.specs.Given.{resting_storms}
 use Rattle.sift_commands.specs.Command.{commands}
 use Rattle.sift_commands.specs.declared.command.Command.{Command}
 use Rattle.sift_reply.specs.Duty.{IsOwedTo}
@@ -9,7 +10,7 @@ use Rattle.sift_reply.specs.Promise.{Commands, IsOwed}
 
 -- the commands of the program, whose stray units store what its storms draw
 abbrev pub program_commands : Commands Command
-program_commands = commands (AreGiven AllowsDrawn resting_storms)
+program_commands = commands (flying_with AllowsDrawn resting_storms)
 
 -- the status and the text are those of a reply that is owed to this input by these words
 abbrev pub IsTold : (words : List (List ℕ)) (input : List ℕ) (status : ℕ) (text : List ℕ) → Type 0

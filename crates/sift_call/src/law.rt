@@ -7,8 +7,7 @@ ghost use Rattle.sift_call.specs.Laws.{CallsTellWhatTheProgramWrites};
 ghost use Rattle.sift_rogue.specs.declared.storm.Storm.{Storm as TheStorm};
 
 use sift_alone::Fleet;
-use sift_commands::{Command, commands_give_one, one_command};
-use sift_jobs::FlightOrder;
+use sift_commands::{Command, Order, commands_give_one, one_command};
 use sift_reply::gives_one_owes_one;
 use sift_rogue::Storm;
 
@@ -19,5 +18,5 @@ pub fn calls_tell_what_the_program_writes()
 {
     one_command();
     commands_give_one::<Fleet<Storm>>();
-    gives_one_owes_one::<Fleet<Storm>, FlightOrder<Fleet<Storm>>, Command>();
+    gives_one_owes_one::<Fleet<Storm>, Order<Fleet<Storm>>, Command>();
 }

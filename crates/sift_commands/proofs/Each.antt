@@ -2,9 +2,8 @@
 use Rattle.std.proofs.Common.{ℕ, List, [], ◌∷◌}
 use Rattle.sift_bus_jobs.specs.Buses.{BusesGives, buses_statuses}
 use Rattle.sift_bus_jobs.specs.declared.buses.BusesJob.{BusesJob}
-use Rattle.sift_flight.specs.Flight.{Strays}
 use Rattle.sift_jobs.specs.Unflown.{IdealGives, CheckGives}
-use Rattle.sift_jobs.specs.Flights.{AreCalm}
+use Rattle.sift_jobs.specs.Flights.{AreCalm, Flying}
 use Rattle.sift_jobs.specs.Gen.{gen_duty}
 use Rattle.sift_jobs.specs.Plan.{PlanGives, plan_statuses}
 use Rattle.sift_jobs.specs.Run.{RunGives}
@@ -24,27 +23,26 @@ use Rattle.sift_lab_jobs.specs.Clocks.{clocks_duty, clocks_statuses}
 use Rattle.sift_lab_jobs.specs.declared.labs.ByzJob.{ByzJob}
 use Rattle.sift_lab_jobs.specs.declared.labs.ClocksJob.{ClocksJob}
 use Rattle.sift_load.specs.Loads.{mission_duty, no_mission_statuses}
-use Rattle.sift_mission.specs.Data.{MissionData}
 use Rattle.sift_reply.specs.Duty.{GivesOne, GivesOneTo, HasOwnStatuses}
 use Rattle.sift_reply.specs.Reply.{done_status}
 use Rattle.sift_commands.specs.OneReply.{CommandsGiveOne}
 use Rattle.sift_commands.specs.Statuses.{CommandsHaveOwnStatuses}
 use Rattle.sift_commands.specs.declared.command.Command.TheVariants as command
 
-module _ (given : MissionData → Strays → Type 0)
-    (run : (job : RunJob) → HasOwnStatuses (mission_duty (RunGives given job)) (done_status ∷ no_mission_statuses))
-    (votes : (job : VotesJob) → HasOwnStatuses (mission_duty (VotesGives given job)) (done_status ∷ no_mission_statuses))
+module _ (flying : Flying)
+    (run : (job : RunJob) → HasOwnStatuses (mission_duty (RunGives flying job)) (done_status ∷ no_mission_statuses))
+    (votes : (job : VotesJob) → HasOwnStatuses (mission_duty (VotesGives flying job)) (done_status ∷ no_mission_statuses))
     (ideal : (job : IdealJob) → HasOwnStatuses (mission_duty (IdealGives job)) (done_status ∷ no_mission_statuses))
     (check : (job : CheckJob) → HasOwnStatuses (mission_duty (CheckGives job)) (done_status ∷ no_mission_statuses))
     (scenario : (job : GenJob) → HasOwnStatuses (gen_duty job) (done_status ∷ []))
-    (trial : (job : TrialJob) → HasOwnStatuses (trial_duty given job) (done_status ∷ []))
+    (trial : (job : TrialJob) → HasOwnStatuses (trial_duty flying job) (done_status ∷ []))
     (plan : (job : PlanJob) → HasOwnStatuses (mission_duty (PlanGives job)) plan_statuses)
     (judge : (job : JudgeJob) → HasOwnStatuses (judge_duty job) judge_statuses)
     (buses : (job : BusesJob) → HasOwnStatuses (mission_duty (BusesGives job)) buses_statuses)
     (byz : (job : ByzJob) → HasOwnStatuses (byz_duty job) byz_statuses)
     (clocks : (job : ClocksJob) → HasOwnStatuses (clocks_duty job) clocks_statuses) where
   -- the statuses of each command are its own
-  pub own_statuses : CommandsHaveOwnStatuses given
+  pub own_statuses : CommandsHaveOwnStatuses flying
   own_statuses (command.Run job) = run job
   own_statuses (command.Votes job) = votes job
   own_statuses (command.Ideal job) = ideal job
@@ -57,16 +55,16 @@ module _ (given : MissionData → Strays → Type 0)
   own_statuses (command.Byz job) = byz job
   own_statuses (command.Clocks job) = clocks job
 
-module _ (given : MissionData → Strays → Type 0)
-    (run : (job : RunJob) (bytes : List ℕ) → AreCalm bytes → GivesOneTo (mission_duty (RunGives given job)) bytes)
-    (votes : (job : VotesJob) (bytes : List ℕ) → AreCalm bytes → GivesOneTo (mission_duty (VotesGives given job)) bytes)
+module _ (flying : Flying)
+    (run : (job : RunJob) (bytes : List ℕ) → AreCalm bytes → GivesOneTo (mission_duty (RunGives flying job)) bytes)
+    (votes : (job : VotesJob) (bytes : List ℕ) → AreCalm bytes → GivesOneTo (mission_duty (VotesGives flying job)) bytes)
     (ideal : (job : IdealJob) → GivesOne (mission_duty (IdealGives job))) (check : (job : CheckJob) → GivesOne (mission_duty (CheckGives job)))
-    (scenario : (job : GenJob) → GivesOne (gen_duty job)) (trial : (job : TrialJob) → GivesOne (trial_duty given job))
+    (scenario : (job : GenJob) → GivesOne (gen_duty job)) (trial : (job : TrialJob) → GivesOne (trial_duty flying job))
     (plan : (job : PlanJob) → GivesOne (mission_duty (PlanGives job))) (judge : (job : JudgeJob) → GivesOne (judge_duty job))
     (buses : (job : BusesJob) → GivesOne (mission_duty (BusesGives job))) (byz : (job : ByzJob) → GivesOne (byz_duty job))
     (clocks : (job : ClocksJob) → GivesOne (clocks_duty job)) where
   -- each command gives one reply to calm bytes, and those that fly no input to all
-  pub gives_one : CommandsGiveOne given
+  pub gives_one : CommandsGiveOne flying
   gives_one (command.Run job) bytes calm = run job bytes (calm tt)
   gives_one (command.Votes job) bytes calm = votes job bytes (calm tt)
   gives_one (command.Ideal job) bytes calm = ideal job bytes

@@ -4,7 +4,7 @@ use Rattle.sift_options.specs.declared.setting.Flag.{Flag}
 use Rattle.sift_options.specs.declared.setting.Flag.TheVariants.{Workers, Order, Report, Number, N, M, Skew, Error, Rate, Rounds, Copies, Subframes, Bus, From, Value}
 use Rattle.sift_bus_jobs.specs.Buses.{BusesGives}
 use Rattle.sift_bus_jobs.specs.Numbers.{buses_job_of}
-use Rattle.sift_flight.specs.Flight.{Strays}
+use Rattle.sift_jobs.specs.Flights.{Flying}
 use Rattle.sift_jobs.specs.Unflown.{IdealGives, CheckGives}
 use Rattle.sift_jobs.specs.Gen.{gen_duty, gen_job_of}
 use Rattle.sift_jobs.specs.Plan.{PlanGives, plan_job_of}
@@ -15,7 +15,6 @@ use Rattle.sift_judge_jobs.specs.Judge.{judge_duty, judge_job_of}
 use Rattle.sift_lab_jobs.specs.Byz.{byz_duty}
 use Rattle.sift_lab_jobs.specs.Clocks.{clocks_duty, clocks_job_of}
 use Rattle.sift_load.specs.Loads.{mission_duty}
-use Rattle.sift_mission.specs.Data.{MissionData}
 use Rattle.sift_options.specs.Options.{Give}
 use Rattle.sift_options.specs.declared.setting.Options.{Options}
 use Rattle.sift_reply.specs.Duty.{Duty}
@@ -72,19 +71,19 @@ asked verb.Buses options = option_map command.Buses (buses_job_of options)
 asked verb.Byz options = Some (command.Byz (record {}))
 asked verb.Clocks options = option_map command.Clocks (clocks_job_of options)
 
--- what each command has to do, where units that turn stray may be given these strays
-abbrev pub duty_of : (given : MissionData → Strays → Type 0) → Command → Duty
-duty_of given (command.Run job) = mission_duty (RunGives given job)
-duty_of given (command.Votes job) = mission_duty (VotesGives given job)
-duty_of given (command.Ideal job) = mission_duty (IdealGives job)
-duty_of given (command.Check job) = mission_duty (CheckGives job)
-duty_of given (command.Gen job) = gen_duty job
-duty_of given (command.Trial job) = trial_duty given job
-duty_of given (command.Plan job) = mission_duty (PlanGives job)
-duty_of given (command.Judge job) = judge_duty job
-duty_of given (command.Buses job) = mission_duty (BusesGives job)
-duty_of given (command.Byz job) = byz_duty job
-duty_of given (command.Clocks job) = clocks_duty job
+-- what each command has to do, where this flies
+abbrev pub duty_of : Flying → Command → Duty
+duty_of flying (command.Run job) = mission_duty (RunGives flying job)
+duty_of flying (command.Votes job) = mission_duty (VotesGives flying job)
+duty_of flying (command.Ideal job) = mission_duty (IdealGives job)
+duty_of flying (command.Check job) = mission_duty (CheckGives job)
+duty_of flying (command.Gen job) = gen_duty job
+duty_of flying (command.Trial job) = trial_duty flying job
+duty_of flying (command.Plan job) = mission_duty (PlanGives job)
+duty_of flying (command.Judge job) = judge_duty job
+duty_of flying (command.Buses job) = mission_duty (BusesGives job)
+duty_of flying (command.Byz job) = byz_duty job
+duty_of flying (command.Clocks job) = clocks_duty job
 
 -- the words are a verb's name and options that it may have, and ask for this command
 pub record Asks (words : List (List ℕ)) (command : Command) : Type 0 where
@@ -96,8 +95,8 @@ pub record Asks (words : List (List ℕ)) (command : Command) : Type 0 where
   pub asked_is : asked verb options ≡ Some command
 
 -- the commands of the program
-abbrev pub commands : (given : MissionData → Strays → Type 0) → Commands Command
-commands given = record { asks = Asks; duty = duty_of given }
+abbrev pub commands : Flying → Commands Command
+commands flying = record { asks = Asks; duty = duty_of flying }
 
 -- words ask for one command at most
 abbrev pub OneCommand : Type 0

@@ -1,7 +1,7 @@
 -- What the report of a run tells, as clauses of the whole call.
 use Rattle.std.specs.Prelude.{ℕ, ◌≡◌, List}
-use Rattle.sift_flight.specs.Flight.{Strays}
 use Rattle.sift_io.specs.Reading.{TakesAll}
+use Rattle.sift_jobs.specs.Flights.{Flying}
 use Rattle.sift_jobs.specs.Run.{IsReported}
 use Rattle.sift_jobs.specs.declared.run.RunJob.{RunJob}
 use Rattle.sift_line.specs.declared.line.ReportLine.{ReportLine}
@@ -14,12 +14,12 @@ use Rattle.sift_report.specs.Headline.{ReportHeadline}
 use Rattle.sift_commands.specs.Command.{Asks, commands}
 use Rattle.sift_commands.specs.declared.command.Command.TheVariants.{Run}
 
-module _ (given : MissionData → Strays → Type 0) where
+module _ (flying : Flying) where
   -- where words ask for a run and the status is 0, the input was read to its end, a text was written, and it is the report, in the version
   -- asked for, of a flight of the mission that the input states; and this holds of the mission and the report's lines
   abbrev pub IsReportWritten : (MissionData → List ReportLine → Type 0) → List (List ℕ) → Input → Output → (status : ℕ) → Type 0
   IsReportWritten Holds words input output status = (job : RunJob) → Asks words (Run job) → status ≡ done_status →
-      (bytes text : List ℕ) × TakesAll input.before input.after bytes document_limit × IsReported given Holds job.version bytes text × IsWritten output text
+      (bytes text : List ℕ) × TakesAll input.before input.after bytes document_limit × IsReported flying Holds job bytes text × IsWritten output text
 
   -- so the headline does
   abbrev pub IsHeadlineWritten : List (List ℕ) → Input → Output → (status : ℕ) → Type 0
@@ -31,5 +31,5 @@ module _ (given : MissionData → Strays → Type 0) where
 
   -- both follow from the promise
   abbrev pub ReportIsWritten : (MissionData → List ReportLine → Type 0) → Type 0
-  ReportIsWritten Holds = (words : List (List ℕ)) (input : Input) (output : Output) (status : ℕ) → IsAnswered (commands given) words input output status
+  ReportIsWritten Holds = (words : List (List ℕ)) (input : Input) (output : Output) (status : ℕ) → IsAnswered (commands flying) words input output status
       → IsReportWritten Holds words input output status

@@ -1,4 +1,5 @@
 pub mod Command
+pub mod Order
 pub mod Headline
 pub mod Statuses
 pub mod OneReply

@@ -1,9 +1,7 @@
 -- That each command gives one reply to an input, but for flights with storms.
 use Rattle.std.specs.Prelude.{◌≡◌, ℕ, List, ⊤}
-use Rattle.sift_flight.specs.Flight.{Strays}
-use Rattle.sift_jobs.specs.Flights.{AreCalm}
+use Rattle.sift_jobs.specs.Flights.{AreCalm, Flying}
 use Rattle.sift_jobs.specs.declared.order.Workers.TheVariants.{One}
-use Rattle.sift_mission.specs.Data.{MissionData}
 use Rattle.sift_reply.specs.Duty.{GivesOneTo}
 use Rattle.sift_reply.specs.Reply.{Reply}
 use Rattle.sift_commands.specs.Command.{duty_of}
@@ -25,8 +23,8 @@ FliesInput (command.Byz job) = ⊥
 FliesInput (command.Clocks job) = ⊥
 
 -- each command gives one reply at most to an input, whatever its workers are; those that fly it, where it states no mission with a storm
-abbrev pub CommandsGiveOne : (given : MissionData → Strays → Type 0) → Type 0
-CommandsGiveOne given = (command : Command) (bytes : List ℕ) → (FliesInput command → AreCalm bytes) → GivesOneTo (duty_of given command) bytes
+abbrev pub CommandsGiveOne : Flying → Type 0
+CommandsGiveOne flying = (command : Command) (bytes : List ℕ) → (FliesInput command → AreCalm bytes) → GivesOneTo (duty_of flying command) bytes
 
 -- the command with one worker in place of its own, whose units step in order 0
 abbrev pub by_one : Command → Command
@@ -44,7 +42,7 @@ by_one (command.Clocks job) = command.Clocks job
 
 -- commands that ask for the same, but for workers and the order in which units step, give one reply to an input; those that fly it, where it
 -- states no mission with a storm
-abbrev pub WorkersDoNotShow : (given : MissionData → Strays → Type 0) → Type 0
-WorkersDoNotShow given =
+abbrev pub WorkersDoNotShow : Flying → Type 0
+WorkersDoNotShow flying =
     (one other : Command) (bytes : List ℕ) (came there : Reply) → by_one one ≡ by_one other → (FliesInput one → AreCalm bytes) →
-    (duty_of given one).gives bytes came → (duty_of given other).gives bytes there → came ≡ there
+    (duty_of flying one).gives bytes came → (duty_of flying other).gives bytes there → came ≡ there

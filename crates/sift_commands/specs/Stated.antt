@@ -1,8 +1,8 @@
 -- What an input is answered that states a mission.
 use Rattle.std.specs.Prelude.{ℕ, ◌≡◌, ◌≤◌, ◌⊎◌, List, Some, length, ⊤}
 use Rattle.sift_bus_jobs.specs.Buses.{BusesGives}
-use Rattle.sift_flight.specs.Flight.{Strays}
 use Rattle.sift_io.specs.Flow.{Rose}
+use Rattle.sift_jobs.specs.Flights.{Flying}
 use Rattle.sift_jobs.specs.Unflown.{IdealGives, CheckGives}
 use Rattle.sift_jobs.specs.Plan.{PlanGives}
 use Rattle.sift_jobs.specs.Run.{RunGives}
@@ -53,11 +53,11 @@ pub record IsStated (words : List (List ℕ)) (command : Command) (input : Input
   pub read : ¬ Rose input.before.faults input.after.faults
   pub written : ¬ Rose output.before.faults output.after.faults
 
-module _ (given : MissionData → Strays → Type 0) where
+module _ (flying : Flying) where
   -- the replies that a command which reads a mission gives for it
   abbrev pub GivesFor : Command → MissionData → Reply → Type 0
-  GivesFor (Run job) mission reply = RunGives given job mission reply
-  GivesFor (Votes job) mission reply = VotesGives given job mission reply
+  GivesFor (Run job) mission reply = RunGives flying job mission reply
+  GivesFor (Votes job) mission reply = VotesGives flying job mission reply
   GivesFor (Ideal job) mission reply = IdealGives job mission reply
   GivesFor (Check job) mission reply = CheckGives job mission reply
   GivesFor (Gen job) mission reply = ⊥
@@ -71,11 +71,11 @@ module _ (given : MissionData → Strays → Type 0) where
   -- an input that states a mission gets a reply that the command gives for it, or memory was wanting
   abbrev pub MissionsAreAnswered : Type 0
   MissionsAreAnswered = (words : List (List ℕ)) (command : Command) (input : Input) (output : Output) (mission : MissionData) (status : ℕ)
-      → IsCertain (commands given) words input output status → ReadsMission command → IsStated words command input output mission
+      → IsCertain (commands flying) words input output status → ReadsMission command → IsStated words command input output mission
       → ((reply : Reply) × GivesFor command mission reply × IsGiven output reply status) ⊎ (status ≡ no_memory_status)
 
   -- so it gets 0 or 10, where the command does what was asked for each mission
   abbrev pub MissionsEndWell : Type 0
   MissionsEndWell = (words : List (List ℕ)) (command : Command) (input : Input) (output : Output) (mission : MissionData) (status : ℕ)
-      → IsCertain (commands given) words input output status → DoesEachMission command → IsStated words command input output mission
+      → IsCertain (commands flying) words input output status → DoesEachMission command → IsStated words command input output mission
       → (status ≡ done_status) ⊎ (status ≡ no_memory_status)

@@ -4,9 +4,10 @@ ghost use Rattle.std.specs.Prelude.{◌≡◌, ◌∷◌, IfNone, IfSome, map, s
 ghost use Rattle.sift_commands.specs.Command.{Asks, asked};
 ghost use Rattle.sift_commands.specs.declared.command.Command.{Command as TheCommand};
 
+use crate::order::{Order, by_workers, over_buses};
 use crate::verb::Verb;
 use sift_base::NoMemory;
-use sift_bus_jobs::{BusFlier, BusesJob};
+use sift_bus_jobs::{BusesJob, BusesOrder};
 use sift_jobs::{
     CheckJob, Flier, FlightOrder, GenJob, IdealJob, PlanJob, RunJob, TrialJob, VotesJob,
 };
@@ -32,50 +33,45 @@ pub enum Command {
     Clocks(ClocksJob),
 }
 
-impl<F: Flier + BusFlier> Job<F, FlightOrder<F>> for Command {
+impl<F: Flier> Job<F, Order<F>> for Command {
     ghost use Rattle.sift_commands.specs.Command.{duty_of};
 
-    ghost duty = { λ flier. duty_of (F.gives flier) };
+    ghost duty = { λ flier. duty_of (F.flying flier) };
 
     fn limit(self) -> Option<u32> {
         match self {
             Command::Run(job) => Job::<F, FlightOrder<F>>::limit(job),
             Command::Votes(job) => Job::<F, FlightOrder<F>>::limit(job),
-            Command::Ideal(job) => Job::<F, FlightOrder<F>>::limit(job),
-            Command::Check(job) => Job::<F, FlightOrder<F>>::limit(job),
-            Command::Gen(job) => Job::<F, FlightOrder<F>>::limit(job),
+            Command::Ideal(job) => Job::<F, Order<F>>::limit(job),
+            Command::Check(job) => Job::<F, Order<F>>::limit(job),
+            Command::Gen(job) => Job::<F, Order<F>>::limit(job),
             Command::Trial(job) => Job::<F, FlightOrder<F>>::limit(job),
-            Command::Plan(job) => Job::<F, FlightOrder<F>>::limit(job),
-            Command::Judge(job) => Job::<F, FlightOrder<F>>::limit(job),
-            Command::Buses(job) => Job::<F, FlightOrder<F>>::limit(job),
-            Command::Byz(job) => Job::<F, FlightOrder<F>>::limit(job),
-            Command::Clocks(job) => Job::<F, FlightOrder<F>>::limit(job),
+            Command::Plan(job) => Job::<F, Order<F>>::limit(job),
+            Command::Judge(job) => Job::<F, Order<F>>::limit(job),
+            Command::Buses(job) => Job::<F, BusesOrder>::limit(job),
+            Command::Byz(job) => Job::<F, Order<F>>::limit(job),
+            Command::Clocks(job) => Job::<F, Order<F>>::limit(job),
         }
     }
 
-    fn begin(
-        self,
-        alloc: Global,
-        flier: F,
-        bytes: &[u8],
-    ) -> Result<Begun<FlightOrder<F>>, NoMemory> {
+    fn begin(self, alloc: Global, flier: F, bytes: &[u8]) -> Result<Begun<Order<F>>, NoMemory> {
         match self {
-            Command::Run(job) => job.begin(alloc, flier, bytes),
-            Command::Votes(job) => job.begin(alloc, flier, bytes),
+            Command::Run(job) => Ok(by_workers(job.begin(alloc, flier, bytes)?)),
+            Command::Votes(job) => Ok(by_workers(job.begin(alloc, flier, bytes)?)),
             Command::Ideal(job) => job.begin(alloc, flier, bytes),
             Command::Check(job) => job.begin(alloc, flier, bytes),
             Command::Gen(job) => job.begin(alloc, flier, bytes),
-            Command::Trial(job) => job.begin(alloc, flier, bytes),
+            Command::Trial(job) => Ok(by_workers(job.begin(alloc, flier, bytes)?)),
             Command::Plan(job) => job.begin(alloc, flier, bytes),
             Command::Judge(job) => job.begin(alloc, flier, bytes),
-            Command::Buses(job) => job.begin(alloc, flier, bytes),
+            Command::Buses(job) => Ok(over_buses(job.begin(alloc, flier, bytes)?)),
             Command::Byz(job) => job.begin(alloc, flier, bytes),
             Command::Clocks(job) => job.begin(alloc, flier, bytes),
         }
     }
 }
 
-impl<F: Flier + BusFlier> Asked<F, FlightOrder<F>> for Command {
+impl<F: Flier> Asked<F, Order<F>> for Command {
     ghost use Rattle.sift_commands.specs.Command.{Asks};
 
     ghost asks = { Asks };

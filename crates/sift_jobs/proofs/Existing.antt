@@ -25,7 +25,7 @@ module _ (given : MissionData → Strays → Type 0) (flies : PartsMakeItFlyable
   votes_there fit job bytes mission strays stated may =
       let found = flights mission strays (fit stated.0 mission stated.2) may in
       let text = votes_of mission found.0 in
-      (done text, inl (mission, stated, (text, (found.0, found.1, refl), refl)))
+      (done text, inl (mission, stated, (text, (found.0, record { over = found.1; by = tt }, refl), refl)))
 
   -- `trial` has a reply for each number, where rogues may give some strays to the mission that is drawn by it
   pub trials_there : StatedMissionsFit → DrawnTreesAreMissions → TrialsAreThere given
@@ -34,4 +34,4 @@ module _ (given : MissionData → Strays → Type 0) (flies : PartsMakeItFlyable
       let (strays, are) = may mission states in
       let found = flights mission strays (fit (tree_of job.number) mission states) are in
       let text = end_of (flown mission) found.0 in
-      (done text, (mission, states, (text, (found.0, found.1, refl), refl)))
+      (done text, (mission, states, (text, (found.0, record { over = found.1; by = tt }, refl), refl)))

@@ -1,6 +1,5 @@
 -- What holds of the lines of each round flight holds of the report that `run` gives.
 use Rattle.std.proofs.Common.{◌≡◌, List, inl, inr, sym, ap, ◌∙◌, arith}
-use Rattle.sift_flight.specs.Flight.{Strays}
 use Rattle.sift_load.specs.Loads.{reply_to}
 use Rattle.sift_load.specs.declared.loading.NoMission.{NoMission}
 use Rattle.sift_load.specs.declared.loading.NoMission.TheVariants.{NotADocument, Refused}
@@ -10,6 +9,7 @@ use Rattle.sift_reply.specs.Reply.{Reply, done_status}
 use Rattle.sift_report.specs.Printed.{IsPrinted}
 use Rattle.sift_scenario.specs.Laws.{StatedMissionsFit}
 use Rattle.sift_scenario.specs.declared.mission.Refused.TheVariants.{Scenario, Task, Table, Script}
+use Rattle.sift_jobs.specs.Flights.{Flying}
 use Rattle.sift_jobs.specs.Run.{RunIsReported}
 
 -- no reply to bytes that state no mission has the status 0
@@ -22,15 +22,15 @@ not_done (Refused (Script entry rule)) is = omega (arith, is)
 
 -- the text of a reply of `run` with the status 0 is the report, in the version asked for, of a flight of the mission that the bytes state, and
 -- so it holds of its lines
-pub reported : (given : MissionData → Strays → Type 0) (Holds : MissionData → List ReportLine → Type 0) → StatedMissionsFit → IsPrinted Holds
-    → RunIsReported given Holds
-reported given Holds fit printed job bytes reply (inl (mission, states, (text, (flight, flies, told), is))) status = record {
+pub reported : (flying : Flying) (Holds : MissionData → List ReportLine → Type 0) → StatedMissionsFit → IsPrinted Holds
+    → RunIsReported flying Holds
+reported flying Holds fit printed job bytes reply (inl (mission, states, (text, (flight, flies, told), is))) status = record {
   mission = mission;
   flight = flight;
   stated = states;
   flies = flies;
   told = (told.0, ap (λ (r : Reply). r.text) is ∙ told.1);
-  holds = printed mission flies.strays flight job.version (fit states.0 mission states.2) flies.round;
+  holds = printed mission flies.over.strays flight job.version (fit states.0 mission states.2) flies.over.round;
 }
-reported given Holds fit printed job bytes reply (inr (why, none, is)) status =
+reported flying Holds fit printed job bytes reply (inr (why, none, is)) status =
     absurd (not_done why (sym (ap (λ (r : Reply). r.status) is) ∙ status))

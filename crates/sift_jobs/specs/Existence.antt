@@ -7,7 +7,7 @@ use Rattle.sift_mission.specs.Data.{MissionData}
 use Rattle.sift_mission.specs.PartsFit.{PartsFit}
 use Rattle.sift_reply.specs.Reply.{Reply}
 use Rattle.sift_scenario.specs.Mission.{IsMission}
-use Rattle.sift_jobs.specs.Flights.{IsFlightOf}
+use Rattle.sift_jobs.specs.Flights.{IsFlightOf, freely}
 use Rattle.sift_jobs.specs.Trial.{trial_duty}
 use Rattle.sift_jobs.specs.Votes.{VotesGives}
 use Rattle.sift_jobs.specs.declared.trial.TrialJob.{TrialJob}
@@ -21,9 +21,9 @@ module _ (given : MissionData → Strays → Type 0) where
   -- so `votes` has a reply to bytes that state a mission, where rogues may give it some strays
   abbrev pub VotesAreThere : Type 0
   VotesAreThere = (job : VotesJob) (bytes : List ℕ) (mission : MissionData) (strays : Strays) → States bytes mission → given mission strays
-      → (reply : Reply) × LoadsThen (VotesGives given job) bytes reply
+      → (reply : Reply) × LoadsThen (VotesGives (freely given) job) bytes reply
 
   -- and `trial` has one for each number
   abbrev pub TrialsAreThere : Type 0
   TrialsAreThere = (job : TrialJob) → ((mission : MissionData) → IsMission (tree_of job.number) mission → (strays : Strays) × given mission strays)
-      → (reply : Reply) × (trial_duty given job).gives [] reply
+      → (reply : Reply) × (trial_duty (freely given) job).gives [] reply

@@ -1,7 +1,6 @@
--- The flights that commands speak of: by how many workers, over which strays, and what is told of one.
-use Rattle.std.specs.Prelude.{ℕ, ◌≤◌, ◌≡◌, List}
+-- The flights that commands speak of: over which strays, by whom, and what is told of one.
+use Rattle.std.specs.Prelude.{ℕ, ◌≡◌, List, ⊤}
 use Rattle.std.specs.List.{All}
-use Rattle.sift_base.specs.Units.{unit_limit}
 use Rattle.sift_flight.specs.Flight.{Flight, Strays, HasNoStorms, IsRound}
 use Rattle.sift_load.specs.Loads.{States}
 use Rattle.sift_mission.specs.Data.{MissionData}
@@ -12,17 +11,7 @@ use Rattle.sift_report.specs.Sheet.{end_of, sheet_of}
 use Rattle.sift_report.specs.Votes.{votes_of}
 use Rattle.sift_jobs.specs.declared.order.Telling.{Telling}
 use Rattle.sift_jobs.specs.declared.order.Telling.TheVariants.{Report, Votes, LastLine}
-
--- ---- how many workers fly together
-
--- the fewest that fly together
-abbrev pub fewest_workers : ℕ
-fewest_workers = 2
-
--- so many may fly together
-pub record AreSeveral (count : ℕ) : Type 0 where
-  pub enough : fewest_workers ≤ count
-  pub few : count ≤ unit_limit
+use Rattle.sift_jobs.specs.declared.order.Workers.{Workers}
 
 -- ---- flights of missions
 
@@ -32,6 +21,21 @@ pub record IsFlightOf (given : MissionData → Strays → Type 0) (mission : Mis
   pub strays : Strays
   pub given_are : given mission strays
   pub round : IsRound (flown mission) strays flight
+
+-- what flies missions: the strays that its rogues may give, and which flights over them these workers may fly. By whom a flight was flown
+-- shows where one worker steps the units in an order
+pub record Flying : Type 1 where
+  pub gives : MissionData → Strays → Type 0
+  pub flies : Workers → MissionData → Flight → Type 0
+
+-- what flies any flight over strays that rogues may give, whoever the workers are
+abbrev pub freely : (given : MissionData → Strays → Type 0) → Flying
+freely given = record { gives = given; flies = λ workers mission flight. ⊤ }
+
+-- a flight of the mission that these workers may fly
+pub record IsFlownBy (flying : Flying) (workers : Workers) (mission : MissionData) (flight : Flight) : Type 0 where
+  pub over : IsFlightOf flying.gives mission flight
+  pub by : flying.flies workers mission flight
 
 -- no mission that the bytes state has a storm
 abbrev pub AreCalm : List ℕ → Type 0
@@ -46,10 +50,10 @@ IsTelling mission flight (Report version) text =
 IsTelling mission flight Votes text = text ≡ votes_of mission flight
 IsTelling mission flight LastLine text = text ≡ end_of (flown mission) flight
 
--- it tells it of some flight of the mission, over strays that rogues may give
-abbrev pub TellsFlight : (given : MissionData → Strays → Type 0) → MissionData → Telling → (text : List ℕ) → Type 0
-TellsFlight given mission telling text = (flight : Flight) × IsFlightOf given mission flight × IsTelling mission flight telling text
+-- it tells it of some flight of the mission that these workers may fly
+abbrev pub TellsFlight : Flying → Workers → MissionData → Telling → (text : List ℕ) → Type 0
+TellsFlight flying workers mission telling text = (flight : Flight) × IsFlownBy flying workers mission flight × IsTelling mission flight telling text
 
 -- the reply has the status 0, and its text does
-abbrev pub RepliesWith : (given : MissionData → Strays → Type 0) → MissionData → Telling → Reply → Type 0
-RepliesWith given mission telling came = (text : List ℕ) × TellsFlight given mission telling text × (came ≡ done text)
+abbrev pub RepliesWith : Flying → Workers → MissionData → Telling → Reply → Type 0
+RepliesWith flying workers mission telling came = (text : List ℕ) × TellsFlight flying workers mission telling text × (came ≡ done text)

@@ -1,3 +1,4 @@
+pub mod Several
 pub mod Flights
 pub mod Plan
 pub mod Run

@@ -1,7 +1,7 @@
 -- The command `run`: by which workers it flies, as for every command that flies, the report of a flight in the version asked for, and what its lines tell.
 use Rattle.std.specs.Prelude.{ℕ, Option, Some, None, option_map, unwrap_or, nat_eq, if◌then◌else◌, ◌≡◌, List}
 use Rattle.sift_base.specs.Units.{unit_limit}
-use Rattle.sift_flight.specs.Flight.{Strays, Flight}
+use Rattle.sift_flight.specs.Flight.{Flight}
 use Rattle.sift_load.specs.Loads.{LoadsThen, States}
 use Rattle.sift_mission.specs.Data.{MissionData}
 use Rattle.sift_options.specs.Options.{within}
@@ -14,7 +14,8 @@ use Rattle.sift_mission.specs.Flown.{flown}
 use Rattle.sift_report.specs.Caught.{ReportCaught}
 use Rattle.sift_report.specs.Headline.{ReportHeadline}
 use Rattle.sift_report.specs.Sheet.{sheet_of}
-use Rattle.sift_jobs.specs.Flights.{RepliesWith, IsFlightOf, IsTelling, fewest_workers}
+use Rattle.sift_jobs.specs.Flights.{Flying, IsFlownBy, IsTelling, RepliesWith}
+use Rattle.sift_jobs.specs.Several.{fewest_workers}
 use Rattle.sift_jobs.specs.declared.run.RunJob.{RunJob}
 use Rattle.sift_jobs.specs.declared.order.Telling.TheVariants.{Report}
 use Rattle.sift_jobs.specs.declared.order.Workers.{Workers}
@@ -45,26 +46,27 @@ abbrev pub run_job_of : Options → Option RunJob
 run_job_of options =
     option_map (λ workers. record { workers = workers; version = version_of options }) (workers_of options.workers options.order)
 
--- the report of a flight of the mission in that version, whatever the workers; what it prints are lines
-abbrev pub RunGives : (given : MissionData → Strays → Type 0) → RunJob → MissionData → Reply → Type 0
-RunGives given job mission = RepliesWith given mission (Report job.version)
+-- the report of a flight of the mission by these workers, in that version; what it prints are lines
+abbrev pub RunGives : Flying → RunJob → MissionData → Reply → Type 0
+RunGives flying job mission = RepliesWith flying job.workers mission (Report job.version)
 
 -- ---- what the lines of its report tell
 
-module _ (given : MissionData → Strays → Type 0) where
-  -- the text is the report, in this version, of a flight of the mission that the bytes state, and this holds of the mission and the lines
-  pub record IsReported (Holds : MissionData → List ReportLine → Type 0) (version : Version) (bytes text : List ℕ) : Type 0 where
+module _ (flying : Flying) where
+  -- the text is the report, in the version asked for, of a flight of the mission that the bytes state, by the workers asked for; and this
+  -- holds of the mission and the lines
+  pub record IsReported (Holds : MissionData → List ReportLine → Type 0) (job : RunJob) (bytes text : List ℕ) : Type 0 where
     pub mission : MissionData
     pub flight : Flight
     pub stated : States bytes mission
-    pub flies : IsFlightOf given mission flight
-    pub told : IsTelling mission flight (Report version) text
-    pub holds : Holds mission (sheet_of (flown mission) flight version)
+    pub flies : IsFlownBy flying job.workers mission flight
+    pub told : IsTelling mission flight (Report job.version) text
+    pub holds : Holds mission (sheet_of (flown mission) flight job.version)
 
-  -- so it is, in the version asked for, with each reply of `run` that has the status 0
+  -- so it is with each reply of `run` that has the status 0
   abbrev pub RunIsReported : (MissionData → List ReportLine → Type 0) → Type 0
-  RunIsReported Holds = (job : RunJob) (bytes : List ℕ) (reply : Reply) → LoadsThen (RunGives given job) bytes reply → reply.status ≡ done_status
-      → IsReported Holds job.version bytes reply.text
+  RunIsReported Holds = (job : RunJob) (bytes : List ℕ) (reply : Reply) → LoadsThen (RunGives flying job) bytes reply → reply.status ≡ done_status
+      → IsReported Holds job bytes reply.text
 
   -- its lines have the headline
   abbrev pub RunIsHeadlined : Type 0

@@ -1,6 +1,6 @@
 //! The laws of the commands: each gives one reply, whose status is its own.
 
-ghost use Rattle.std.specs.Prelude.{ℕ, List, [], ◌∷◌, ◌++◌};
+ghost use Rattle.std.specs.Prelude.{ℕ, ◌≡◌, List, [], ◌∷◌, ◌++◌};
 ghost use Rattle.sift_jobs.specs.Unflown.{IdealGives, CheckGives};
 ghost use Rattle.sift_jobs.specs.Existence.{MissionsHaveFlights, TrialsAreThere, VotesAreThere};
 ghost use Rattle.sift_jobs.specs.Flights.{AreCalm};
@@ -17,7 +17,7 @@ ghost use Rattle.sift_jobs.specs.declared.scenario.GenJob.{GenJob as Gen};
 ghost use Rattle.sift_jobs.specs.declared.trial.TrialJob.{TrialJob as Trial};
 ghost use Rattle.sift_jobs.specs.declared.votes.VotesJob.{VotesJob as Votes};
 ghost use Rattle.sift_load.specs.Loads.{mission_duty, no_mission_statuses};
-ghost use Rattle.sift_reply.specs.Duty.{GivesOne, GivesOneTo, HasOwnStatuses};
+ghost use Rattle.sift_reply.specs.Duty.{GiveAlike, GivesOne, GivesOneTo, HasOwnStatuses};
 ghost use Rattle.sift_reply.specs.Reply.{done_status};
 
 use crate::check::CheckJob;
@@ -28,7 +28,7 @@ use crate::run::RunJob;
 use crate::votes::VotesJob;
 use sift_flight::{each_mission_has_a_round_flight, round_flights_are_alike};
 use sift_gen::one_text_of_a_number;
-use sift_load::{loading_gives_one, loading_has_own_statuses};
+use sift_load::{bytes_state_one_mission, loading_gives_one, loading_has_own_statuses};
 use sift_mission::fitting_parts_make_a_flight;
 use sift_planner::{one_plan_each, one_size_without_room};
 use sift_program::sound_programs_have_shapes;
@@ -42,14 +42,14 @@ use sift_trial::{drawn_missions_have_no_storms, drawn_trees_are_missions};
 
 /// `run` ends with 0, or with the status of bytes that state no mission.
 pub fn run_has_own_statuses<F: Flier>()
-    ensures { (flier : F) (job : Run) → HasOwnStatuses (mission_duty (RunGives (F.gives flier) job)) (done_status ∷ no_mission_statuses) }
+    ensures { (flier : F) (job : Run) → HasOwnStatuses (mission_duty (RunGives (F.flying flier) job)) (done_status ∷ no_mission_statuses) }
 {
     loading_has_own_statuses::<F, FlightOrder<F>, RunJob>();
 }
 
 /// So does `votes`.
 pub fn votes_has_own_statuses<F: Flier>()
-    ensures { (flier : F) (job : Votes) → HasOwnStatuses (mission_duty (VotesGives (F.gives flier) job)) (done_status ∷ no_mission_statuses) }
+    ensures { (flier : F) (job : Votes) → HasOwnStatuses (mission_duty (VotesGives (F.flying flier) job)) (done_status ∷ no_mission_statuses) }
 {
     loading_has_own_statuses::<F, FlightOrder<F>, VotesJob>();
 }
@@ -82,13 +82,13 @@ pub fn gen_has_own_statuses()
 
 /// So does `trial`.
 pub fn trial_has_own_statuses<F: Flier>()
-    ensures { (flier : F) (job : Trial) → HasOwnStatuses (trial_duty (F.gives flier) job) (done_status ∷ []) }
+    ensures { (flier : F) (job : Trial) → HasOwnStatuses (trial_duty (F.flying flier) job) (done_status ∷ []) }
 {}
 
 /// `run` gives one reply to an input that states no storm: the workers, the order of their steps, and all else that a flight
 /// leaves open, show in no report.
 pub fn run_gives_one<F: Flier>()
-    ensures { (flier : F) (job : Run) (bytes : List ℕ) → AreCalm bytes → GivesOneTo (mission_duty (RunGives (F.gives flier) job)) bytes }
+    ensures { (flier : F) (job : Run) (bytes : List ℕ) → AreCalm bytes → GivesOneTo (mission_duty (RunGives (F.flying flier) job)) bytes }
 {
     loading_gives_one::<F, FlightOrder<F>, RunJob>();
     fitting_parts_make_a_flight();
@@ -99,13 +99,33 @@ pub fn run_gives_one<F: Flier>()
 
 /// So does `votes`.
 pub fn votes_gives_one<F: Flier>()
-    ensures { (flier : F) (job : Votes) (bytes : List ℕ) → AreCalm bytes → GivesOneTo (mission_duty (VotesGives (F.gives flier) job)) bytes }
+    ensures { (flier : F) (job : Votes) (bytes : List ℕ) → AreCalm bytes → GivesOneTo (mission_duty (VotesGives (F.flying flier) job)) bytes }
 {
     loading_gives_one::<F, FlightOrder<F>, VotesJob>();
     fitting_parts_make_a_flight();
     round_flights_are_alike();
     alike_flights_have_one_text();
     stated_missions_fit();
+}
+
+/// Nor do workers show: `run` and `votes` give one reply to such an input, and `trial` one for a number, whoever flies.
+pub fn workers_show_in_no_text<F: Flier>()
+    ensures run { (flier : F) (one other : Run) (bytes : List ℕ) → one.version ≡ other.version → AreCalm bytes
+        → GiveAlike (mission_duty (RunGives (F.flying flier) one)) (mission_duty (RunGives (F.flying flier) other)) bytes }
+    ensures votes { (flier : F) (one other : Votes) (bytes : List ℕ) → AreCalm bytes
+        → GiveAlike (mission_duty (VotesGives (F.flying flier) one)) (mission_duty (VotesGives (F.flying flier) other)) bytes }
+    ensures trial { (flier : F) (one other : Trial) (bytes : List ℕ) → one.number ≡ other.number
+        → GiveAlike (trial_duty (F.flying flier) one) (trial_duty (F.flying flier) other) bytes }
+{
+    bytes_state_one_mission();
+    one_mission();
+    run_gives_one::<F>();
+    votes_gives_one::<F>();
+    fitting_parts_make_a_flight();
+    round_flights_are_alike();
+    alike_flights_have_one_text();
+    stated_missions_fit();
+    drawn_missions_have_no_storms();
 }
 
 /// `ideal` gives one reply to each input.
@@ -142,7 +162,7 @@ pub fn gen_gives_one()
 
 /// `trial` gives one reply: a number has one mission, which has no storm, and of which all flights end alike.
 pub fn trial_gives_one<F: Flier>()
-    ensures { (flier : F) (job : Trial) → GivesOne (trial_duty (F.gives flier) job) }
+    ensures { (flier : F) (job : Trial) → GivesOne (trial_duty (F.flying flier) job) }
 {
     one_mission();
     fitting_parts_make_a_flight();
@@ -155,7 +175,7 @@ pub fn trial_gives_one<F: Flier>()
 /// Where `run` ends with 0 its text is the report of a flight of the mission that the input states, and the headline holds
 /// of its lines.
 pub fn run_is_headlined<F: Flier>()
-    ensures { (flier : F) → RunIsHeadlined (F.gives flier) }
+    ensures { (flier : F) → RunIsHeadlined (F.flying flier) }
 {
     stated_missions_fit();
     the_headline_is_printed();
@@ -163,7 +183,7 @@ pub fn run_is_headlined<F: Flier>()
 
 /// They tell each lie to a working unit, whom it costs its place, and nobody who says its own words.
 pub fn run_tells_caught<F: Flier>()
-    ensures { (flier : F) → RunTellsCaught (F.gives flier) }
+    ensures { (flier : F) → RunTellsCaught (F.flying flier) }
 {
     stated_missions_fit();
     caught_is_printed();
@@ -171,9 +191,9 @@ pub fn run_tells_caught<F: Flier>()
 
 /// Each mission has a flight over any strays that the rogues may give, so `votes` and `trial` have a reply.
 pub fn missions_have_flights<F: Flier>()
-    ensures flights { (flier : F) → MissionsHaveFlights (F.gives flier) }
-    ensures votes { (flier : F) → VotesAreThere (F.gives flier) }
-    ensures trials { (flier : F) → TrialsAreThere (F.gives flier) }
+    ensures flights { (flier : F) → MissionsHaveFlights (F.flying flier).gives }
+    ensures votes { (flier : F) → VotesAreThere (F.flying flier).gives }
+    ensures trials { (flier : F) → TrialsAreThere (F.flying flier).gives }
 {
     fitting_parts_make_a_flight();
     each_mission_has_a_round_flight();

@@ -3,8 +3,9 @@
 ghost use Rattle.std.specs.Prelude.{◌≡◌, IfOk, string_bytes};
 ghost use Rattle.sift_base.specs.Units.{unit_limit};
 ghost use Rattle.sift_flight.specs.Told.{IsWhole, told};
-ghost use Rattle.sift_jobs.specs.Flights.{AreSeveral, IsTelling, fewest_workers};
+ghost use Rattle.sift_jobs.specs.Flights.{IsTelling};
 ghost use Rattle.sift_jobs.specs.Run.{workers_of};
+ghost use Rattle.sift_jobs.specs.Several.{AreSeveral, fewest_workers};
 ghost use Rattle.sift_mission.specs.Parts.{data_of, flown_of};
 ghost use Rattle.sift_options.specs.Options.{within};
 
@@ -21,13 +22,12 @@ use std::marker::Model;
 
 /// What flies missions, and has a rogue for each unit that turns stray.
 ///
-/// Contracts see of it which strays these rogues may give in a flight of a mission, and nothing else.
+/// Contracts see of it which strays these rogues may give, and which flights it flies by which workers, and nothing else.
 pub trait Flier: Drop {
-    ghost use Rattle.sift_flight.specs.Flight.{Strays};
-    ghost use Rattle.sift_mission.specs.Data.{MissionData};
+    ghost use Rattle.sift_jobs.specs.Flights.{Flying};
 
-    /// The rogues may give these strays of each unit of a mission.
-    ghost gives: { Self → MissionData → Strays → Type 0 };
+    /// What it flies.
+    ghost flying: { Self → Flying };
 }
 
 /// The workers that fly a mission.
@@ -66,7 +66,7 @@ pub struct WorkerCount {
 
 impl Model for WorkerCount {
     ghost use Rattle.std.specs.Prelude.{ℕ};
-    ghost use Rattle.sift_jobs.specs.Flights.{AreSeveral};
+    ghost use Rattle.sift_jobs.specs.Several.{AreSeveral};
 
     ghost Value = { ℕ };
 
@@ -136,5 +136,5 @@ impl<F: Flier> Work for FlightOrder<F> {
     ghost use Rattle.sift_jobs.specs.Flights.{TellsFlight};
     ghost use Rattle.sift_mission.specs.Parts.{data_of};
 
-    ghost gives = { λ order. TellsFlight (F.gives order.flier) (data_of order.mission) order.telling };
+    ghost gives = { λ order. TellsFlight (F.flying order.flier) order.workers (data_of order.mission) order.telling };
 }

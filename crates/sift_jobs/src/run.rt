@@ -44,7 +44,7 @@ pub fn version_of(options: Options) -> Version
 impl<F: Flier> MissionJob<F, FlightOrder<F>> for RunJob {
     ghost use Rattle.sift_jobs.specs.Run.{RunGives};
 
-    ghost gives_for = { λ flier. RunGives (F.gives flier) };
+    ghost gives_for = { λ flier. RunGives (F.flying flier) };
 
     fn begin_for(
         self,
@@ -65,7 +65,7 @@ impl<F: Flier> Job<F, FlightOrder<F>> for RunJob {
     ghost use Rattle.sift_jobs.specs.Run.{RunGives};
     ghost use Rattle.sift_load.specs.Loads.{mission_duty};
 
-    ghost duty = { λ flier job. mission_duty (RunGives (F.gives flier) job) };
+    ghost duty = { λ flier job. mission_duty (RunGives (F.flying flier) job) };
 
     fn limit(self) -> Option<u32> {
         Some(DOCUMENT_LIMIT)

@@ -33,7 +33,7 @@ impl TrialJob {
 impl<F: Flier> Job<F, FlightOrder<F>> for TrialJob {
     ghost use Rattle.sift_jobs.specs.Trial.{trial_duty};
 
-    ghost duty = { λ flier. trial_duty (F.gives flier) };
+    ghost duty = { λ flier. trial_duty (F.flying flier) };
 
     fn limit(self) -> Option<u32> {
         None

@@ -31,7 +31,7 @@ impl VotesJob {
 impl<F: Flier> MissionJob<F, FlightOrder<F>> for VotesJob {
     ghost use Rattle.sift_jobs.specs.Votes.{VotesGives};
 
-    ghost gives_for = { λ flier. VotesGives (F.gives flier) };
+    ghost gives_for = { λ flier. VotesGives (F.flying flier) };
 
     fn begin_for(
         self,
@@ -52,7 +52,7 @@ impl<F: Flier> Job<F, FlightOrder<F>> for VotesJob {
     ghost use Rattle.sift_jobs.specs.Votes.{VotesGives};
     ghost use Rattle.sift_load.specs.Loads.{mission_duty};
 
-    ghost duty = { λ flier job. mission_duty (VotesGives (F.gives flier) job) };
+    ghost duty = { λ flier job. mission_duty (VotesGives (F.flying flier) job) };
 
     fn limit(self) -> Option<u32> {
         Some(DOCUMENT_LIMIT)

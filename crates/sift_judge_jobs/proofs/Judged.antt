@@ -1,7 +1,8 @@
 -- The report that `run` gives is judged yes.
 use Rattle.std.proofs.Common.{◌≡◌, ◌∙◌, inl, inr, ℕ, List, ap, refl, subst, sym}
-use Rattle.sift_flight.specs.Flight.{Strays}
+use Rattle.sift_jobs.specs.Flights.{Flying}
 use Rattle.sift_jobs.specs.Run.{IsReported, RunIsHeadlined}
+use Rattle.sift_jobs.specs.declared.run.RunJob.{RunJob}
 use Rattle.sift_judge.specs.Laws.{OneVerdict}
 use Rattle.sift_judge.specs.Verdict.{IsVerdict}
 use Rattle.sift_judge.specs.declared.judging.Verdict.TheVariants.{Yes}
@@ -57,19 +58,19 @@ module _ (version : Version) (document report : List ℕ) (mission : MissionData
 
 -- the sheet's lines are read from it
 sheet_read :
-    (given : MissionData → Strays → Type 0) → SheetsHaveTheirVersion → LinesComeApart
-    → (version : Version) (document report : List ℕ) (is : IsReported given ReportHeadline version document report)
-    → AreRead version report (sheet_of (flown is.mission) is.flight version)
-sheet_read given versions apart version document report is = record {
-  all = λ k d low. record { holds = is.told.0 k d low; told = versions (flown is.mission) is.flight version k d low };
-  texts = apart (sheet_of (flown is.mission) is.flight version) is.told.0 ∙ ap texts_of (sym is.told.1);
+    (flying : Flying) → SheetsHaveTheirVersion → LinesComeApart
+    → (run : RunJob) (document report : List ℕ) (is : IsReported flying ReportHeadline run document report)
+    → AreRead run.version report (sheet_of (flown is.mission) is.flight run.version)
+sheet_read flying versions apart run document report is = record {
+  all = λ k d low. record { holds = is.told.0 k d low; told = versions (flown is.mission) is.flight run.version k d low };
+  texts = apart (sheet_of (flown is.mission) is.flight run.version) is.told.0 ∙ ap texts_of (sym is.told.1);
 }
 
 -- a report that `run` gives to a document is judged yes behind that document, in the same version
 pub judged_yes :
-    (given : MissionData → Strays → Type 0) → OneVerdict → SheetsHaveTheirVersion → LinesComeApart
-    → OneMissionIsStated → StatedMissionsAreUnrefused → RunIsHeadlined given → RunsAreJudgedYes given
-judged_yes given verdicts versions apart one_mission unrefused headlined run judge document report came same gives divided judged =
-    let is : IsReported given ReportHeadline run.version document report = headlined run document (done report) gives refl in
+    (flying : Flying) → OneVerdict → SheetsHaveTheirVersion → LinesComeApart
+    → OneMissionIsStated → StatedMissionsAreUnrefused → RunIsHeadlined flying → RunsAreJudgedYes flying
+judged_yes flying verdicts versions apart one_mission unrefused headlined run judge document report came same gives divided judged =
+    let is : IsReported flying ReportHeadline run document report = headlined run document (done report) gives refl in
     of_input run.version document report is.mission (sheet_of (flown is.mission) is.flight run.version) verdicts
-    (sheet_read given versions apart run.version document report is) is.holds one_mission unrefused is.stated judge _ came same divided judged
+    (sheet_read flying versions apart run document report is) is.holds one_mission unrefused is.stated judge _ came same divided judged

@@ -1,10 +1,9 @@
 -- The report that `run` gives is judged yes.
 use Rattle.std.specs.Prelude.{codes, ℕ, ◌≡◌, List, ◌++◌}
-use Rattle.sift_flight.specs.Flight.{Strays}
+use Rattle.sift_jobs.specs.Flights.{Flying}
 use Rattle.sift_jobs.specs.Run.{RunGives}
 use Rattle.sift_jobs.specs.declared.run.RunJob.{RunJob}
 use Rattle.sift_load.specs.Loads.{LoadsThen}
-use Rattle.sift_mission.specs.Data.{MissionData}
 use Rattle.sift_reply.specs.Reply.{Reply, done}
 use Rattle.sift_judge_jobs.specs.Divided.{AreDivided, divider}
 use Rattle.sift_judge_jobs.specs.Judge.{judge_duty}
@@ -16,7 +15,7 @@ IsDividedThere document report = AreDivided (document ++ (divider ++ report)) do
 
 -- where `run` gives the report to the document, whatever its rogues may give, each reply that `judge` gives to them in the same version is
 -- yes
-abbrev pub RunsAreJudgedYes : (given : MissionData → Strays → Type 0) → Type 0
-RunsAreJudgedYes given = (run : RunJob) (judge : JudgeJob) (document report : List ℕ) (came : Reply) → run.version ≡ judge.version
-    → LoadsThen (RunGives given run) document (done report) → IsDividedThere document report
+abbrev pub RunsAreJudgedYes : Flying → Type 0
+RunsAreJudgedYes flying = (run : RunJob) (judge : JudgeJob) (document report : List ℕ) (came : Reply) → run.version ≡ judge.version
+    → LoadsThen (RunGives flying run) document (done report) → IsDividedThere document report
     → (judge_duty judge).gives (document ++ (divider ++ report)) came → came ≡ done (codes "yes\n")

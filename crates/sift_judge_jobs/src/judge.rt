@@ -140,7 +140,7 @@ pub fn judge_gives_one()
 /// divides, in the same version: the lines that are read from it are those of the flight's sheet,
 /// which have the headline.
 pub fn runs_are_judged_yes<F: Flier>()
-    ensures { (flier : F) → RunsAreJudgedYes (F.gives flier) }
+    ensures { (flier : F) → RunsAreJudgedYes (F.flying flier) }
 {
     run_is_headlined::<F>();
     sheets_have_their_version();

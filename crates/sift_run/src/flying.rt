@@ -2,13 +2,17 @@
 
 ghost use Rattle.std.specs.Prelude.{◌≡◌, ◌≤◌, IfOk, length, string_bytes};
 ghost use Rattle.sift_base.specs.Units.{unit_limit};
+ghost use Rattle.sift_alone.specs.Flown.{flying_with};
 ghost use Rattle.sift_alone.specs.Given.{AreGiven};
+ghost use Rattle.sift_alone.specs.Order.{FlyTogether, count_by};
+ghost use Rattle.sift_alone.specs.Told.{TellsOfFleet};
 ghost use Rattle.sift_flight.specs.Told.{IsWhole, told};
 ghost use Rattle.sift_jobs.specs.Flights.{IsFlightOf, TellsFlight};
 ghost use Rattle.sift_mission.specs.Parts.{data_of, flown_of};
 
-use sift_alone::{Fleet, tell_alone};
+use sift_alone::{Fleet, tell_alone, tell_over_buses};
 use sift_base::NoMemory;
+use sift_commands::Order;
 use sift_flight::{Flight, round_flights_are_whole};
 use sift_jobs::{FlightOrder, Workers};
 use sift_mission::{Mission, a_mission_fits};
@@ -18,8 +22,9 @@ use std::alloc::Global;
 use std::sync::Wait;
 use std::thread::Threads;
 
-/// How many workers fly a mission together.
+/// How many workers fly a mission.
 fn count_of(mission: &Mission, workers: Workers) -> u8
+    ensures number { result ≡ count_by mission.now.units workers }
     ensures some { 1 ≤ result }
     ensures few { result ≤ unit_limit }
 {
@@ -56,7 +61,9 @@ fn tell_together<R: Rogue + Send, P: Probe + Sync, H: Threads + Wait + Sync>(
     order: FlightOrder<Fleet<R>>,
     probe: &P,
 ) -> Result<String, NoMemory>
-    ensures { IfOk result (λ text. TellsFlight (AreGiven R.allows order.flier.rogues.items) (data_of order.mission) order.telling (string_bytes text)) }
+    requires { FlyTogether order.workers }
+    ensures { IfOk result (λ text. TellsFlight (flying_with R.allows order.flier.rogues.items) order.workers
+        (data_of order.mission) order.telling (string_bytes text)) }
 {
     let FlightOrder {
         flier,
@@ -70,17 +77,34 @@ fn tell_together<R: Rogue + Send, P: Probe + Sync, H: Threads + Wait + Sync>(
     telling.text(alloc, &mission, &flight)
 }
 
-/// Flies what is ordered, and tells what is asked of it. One worker waits for nobody; several wait for one another.
-pub(crate) fn tell<R: Rogue + Send, P: Probe + Sync, H: Threads + Wait + Sync>(
+/// Flies what is ordered by the workers that are asked for, and tells what is asked of it. One worker waits for nobody;
+/// several wait for one another.
+fn tell_by_workers<R: Rogue + Send, P: Probe + Sync, H: Threads + Wait + Sync>(
     rt: &H,
     alloc: Global,
     order: FlightOrder<Fleet<R>>,
     probe: &P,
 ) -> Result<String, NoMemory>
-    ensures { IfOk result (λ text. TellsFlight (AreGiven R.allows order.flier.rogues.items) (data_of order.mission) order.telling (string_bytes text)) }
+    ensures { IfOk result (λ text. TellsFlight (flying_with R.allows order.flier.rogues.items) order.workers
+        (data_of order.mission) order.telling (string_bytes text)) }
 {
     match order.workers {
         Workers::One { .. } => tell_alone(alloc, order),
         Workers::Several(_) | Workers::OneEach => tell_together(rt, alloc, order, probe),
+    }
+}
+
+/// Flies what is ordered, by workers or over buses, and tells what is asked of it.
+pub(crate) fn tell<R: Rogue + Send, P: Probe + Sync, H: Threads + Wait + Sync>(
+    rt: &H,
+    alloc: Global,
+    order: Order<Fleet<R>>,
+    probe: &P,
+) -> Result<String, NoMemory>
+    ensures { IfOk result (λ text. TellsOfFleet R.allows order (string_bytes text)) }
+{
+    match order {
+        Order::ByWorkers(order) => tell_by_workers(rt, alloc, order, probe),
+        Order::OverBuses(order) => tell_over_buses(alloc, order),
     }
 }

@@ -2,9 +2,8 @@
 
 ghost use Rattle.std.specs.Prelude.{◌≡◌, IfOk, length, map, string_bytes};
 ghost use Rattle.sift_base.specs.Units.{unit_limit};
-ghost use Rattle.sift_alone.specs.Given.{AreGiven};
-ghost use Rattle.sift_jobs.specs.Flights.{TellsFlight};
-ghost use Rattle.sift_mission.specs.Parts.{data_of};
+ghost use Rattle.sift_alone.specs.Flown.{flying_with};
+ghost use Rattle.sift_alone.specs.Told.{TellsOfFleet};
 ghost use Rattle.sift_reply.specs.Reply.{no_memory_status};
 ghost use Rattle.sift_reply.specs.Promise.{AskForNoInput, IsAnswered, IsCertain};
 ghost use Rattle.sift_commands.specs.Command.{commands};
@@ -13,8 +12,8 @@ ghost use Rattle.sift_commands.specs.Headline.{IsCaughtWritten, IsHeadlineWritte
 use crate::flying::tell;
 use sift_alone::{Fleet, sift_by};
 use sift_base::NoMemory;
+use sift_commands::Order;
 use sift_io::{Sink, Source};
-use sift_jobs::FlightOrder;
 use sift_rogue::Rogue;
 use sift_threads::Probe;
 use std::alloc::Global;
@@ -41,21 +40,21 @@ pub fn sift<S: Source, K: Sink, R: Rogue + Send, P: Probe + Sync, H: Threads + W
     probe: &P,
 ) -> u8
     requires { length rogues.items ≡ unit_limit }
-    ensures answered { IsAnswered (commands (AreGiven R.allows rogues.items)) (map string_bytes words.now)
+    ensures answered { IsAnswered (commands (flying_with R.allows rogues.items)) (map string_bytes words.now)
         (record { before = S.inflow source.old; after = S.inflow source.new })
         (record { before = K.outflow sink.old; after = K.outflow sink.new }) result }
-    ensures certain { IsCertain (commands (AreGiven R.allows rogues.items)) (map string_bytes words.now)
+    ensures certain { IsCertain (commands (flying_with R.allows rogues.items)) (map string_bytes words.now)
         (record { before = S.inflow source.old; after = S.inflow source.new })
         (record { before = K.outflow sink.old; after = K.outflow sink.new }) result }
-    ensures headline { IsHeadlineWritten (AreGiven R.allows rogues.items) (map string_bytes words.now)
+    ensures headline { IsHeadlineWritten (flying_with R.allows rogues.items) (map string_bytes words.now)
         (record { before = S.inflow source.old; after = S.inflow source.new })
         (record { before = K.outflow sink.old; after = K.outflow sink.new }) result }
-    ensures caught { IsCaughtWritten (AreGiven R.allows rogues.items) (map string_bytes words.now)
+    ensures caught { IsCaughtWritten (flying_with R.allows rogues.items) (map string_bytes words.now)
         (record { before = S.inflow source.old; after = S.inflow source.new })
         (record { before = K.outflow sink.old; after = K.outflow sink.new }) result }
 
     // Only a command that reads it reads the source, and want of memory writes nothing.
-    ensures unread { AskForNoInput (commands (AreGiven R.allows rogues.items)) (map string_bytes words.now) → source.new ≡ source.old }
+    ensures unread { AskForNoInput (commands (flying_with R.allows rogues.items)) (map string_bytes words.now) → source.new ≡ source.old }
     ensures unwritten { result ≡ no_memory_status → sink.new ≡ sink.old }
 {
     sift_by(
@@ -64,8 +63,8 @@ pub fn sift<S: Source, K: Sink, R: Rogue + Send, P: Probe + Sync, H: Threads + W
         source,
         sink,
         rogues,
-        &|order: FlightOrder<Fleet<R>>| -> Result<String, NoMemory>
-            ensures { IfOk result (λ text. TellsFlight (AreGiven R.allows order.flier.rogues.items) (data_of order.mission) order.telling (string_bytes text)) }
+        &|order: Order<Fleet<R>>| -> Result<String, NoMemory>
+            ensures { IfOk result (λ text. TellsOfFleet R.allows order (string_bytes text)) }
         { tell(rt, alloc, order, probe) },
     )
 }

@@ -5,4 +5,4 @@ use Rattle.sift_bus_jobs.proofs.OneReply.{own}
 use Rattle.sift_bus_jobs.proofs.buses.buses_has_own_statuses.Goals as goal
 
 pub returns : goal.returns
-returns g c = λ flier job. c.loading_has_own_statuses.ensures flier job (done_status ∷ storm_status ∷ []) (own job)
+returns c = λ job. c.loading_has_own_statuses.ensures tt job (done_status ∷ storm_status ∷ []) (own job)

@@ -1,5 +1,6 @@
 use Rattle.std.proofs.Common.{◌≡◌, ◌∙◌, ℕ, List, Some, ap, drop, map, refl, string_bytes, subst}
-use Rattle.sift_alone.specs.Given.{AreGiven, resting_storms}
+use Rattle.sift_alone.specs.Flown.{flying_with}
+use Rattle.sift_alone.specs.Given.{resting_storms}
 use Rattle.sift_commands.specs.Statuses.{CommandsHaveOwnStatuses}
 use Rattle.sift_io.specs.Sure.{sure_inflow}
 use Rattle.sift_rogue.specs.Rogues.{AllowsDrawn}
@@ -30,5 +31,5 @@ returns-clause-told c =
 
 pub returns-clause-known : goal.returns-clause-known
 returns-clause-known c =
-    let own = subst (λ (them : List Storm). CommandsHaveOwnStatuses (AreGiven AllowsDrawn them)) (resting c) (c.commands_have_own_statuses.ensures.own c.of-fleet.result) in
+    let own = subst (λ (them : List Storm). CommandsHaveOwnStatuses (flying_with AllowsDrawn them)) (resting c) (c.commands_have_own_statuses.ensures.own c.of-fleet.result) in
     (known own (map string_bytes c.args.words.now) _ c.sift_alone-status.result _ (is_told c _ refl), c.if-status-eq-NO_MEMORY_STATUS.false)

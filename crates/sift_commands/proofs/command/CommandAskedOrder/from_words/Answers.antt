@@ -1,6 +1,6 @@
 use Rattle.std.proofs.Common.{string_bytes, Global, arith}
 use Rattle.sift_options.proofs.lemmas.Words.{map-first}
-use Rattle.sift_commands.proofs.command.CommandAskedFlightOrder.from_words.Goals as goal
+use Rattle.sift_commands.proofs.command.CommandAskedOrder.from_words.Goals as goal
 
 -- the words are the first one and the rest
 pub returns-clause-none : goal.returns-clause-none
