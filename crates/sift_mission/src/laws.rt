@@ -1,5 +1,7 @@
 //! Laws about missions, and about who speaks to whom.
 
+ghost use Rattle.std.specs.Thread.{IsSync};
+ghost use Rattle.sift_mission.specs.contracts.mission.Mission.{the_row};
 ghost use Rattle.sift_mission.specs.Fits.{Fits};
 ghost use Rattle.sift_mission.specs.Parts.{flown_of, data_of};
 ghost use Rattle.sift_mission.specs.PartsFit.{PartsFit};
@@ -62,3 +64,8 @@ pub fn fitting_parts_make_a_flight()
     working_units_have_not_turned();
     words_have_their_task();
 }
+
+/// A mission may be lent to several threads.
+pub fn missions_may_be_lent()
+    ensures { IsSync the_row }
+{}

@@ -1,5 +1,7 @@
 //! Laws about what boards do.
 
+ghost use Rattle.std.specs.Thread.{IsSend};
+ghost use Rattle.sift_unit.specs.contracts.board.Board.{the_row};
 ghost use Rattle.sift_unit.specs.BoardLaws.{KeepLaw, StartLaw, TurnLaw, TurnFirstLaw, JumpLaw};
 ghost use Rattle.sift_unit.specs.Boards.{NewBoardLaw, DriveLaw, AccountLaw};
 ghost use Rattle.sift_unit.specs.Down.{DownLaw, StrayLaw};
@@ -58,4 +60,9 @@ pub fn boards_that_are_down_have_flown()
 /// A board drives on whatever strays its unit has stored.
 pub fn boards_drive_beside_strays()
     ensures { StrayLaw }
+{}
+
+/// A board may be sent to another thread.
+pub fn boards_may_be_sent()
+    ensures { IsSend the_row }
 {}
