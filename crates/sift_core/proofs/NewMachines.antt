@@ -12,7 +12,7 @@ use Rattle.sift_buffer.specs.Lawful.{Lawful}
 use Rattle.sift_buffer.specs.Laws.{FreshIsLawful}
 use Rattle.sift_buffer.specs.Racks.{IsNewRack, ranges_for, core_of, view_at}
 use Rattle.sift_config.specs.laws.FirstUnits.{unit_low, low_unit}
-use Rattle.sift_mission.specs.Data.{FlownMission, MissionData}
+use Rattle.sift_mission.specs.Data.{MissionData}
 use Rattle.sift_mission.specs.Flown.{flown}
 use Rattle.sift_mission.specs.PartsFit.{PartsFit}
 use Rattle.sift_mission.specs.laws.Configs.{units_fit}

@@ -1,5 +1,5 @@
 -- What one unit's turn does to the calls that are left, and to the strays over which the machine flies.
-use Rattle.std.proofs.Common.{◌≡◌, ◌≢◌, ℕ, ◌+◌, ◌-◌, ◌*◌, ◌<◌, ◌≤◌, List, [], ◌∷◌, ◌++◌, length, slice_index, slice_index_or, length-set, true, Option, Some, None, IfSome, option_map, option_to_list, refl, sym, ap, ◌∙◌, subst, arith, eq-eqb, ne_eqb}
+use Rattle.std.proofs.Common.{◌≡◌, ◌≢◌, ℕ, ◌+◌, ◌-◌, ◌*◌, ◌<◌, ◌≤◌, List, [], ◌∷◌, ◌++◌, length, slice_index, slice_index_or, length-set, true, Option, Some, None, option_map, option_to_list, refl, sym, ap, ◌∙◌, subst, arith, eq-eqb, ne_eqb}
 use Rattle.std.proofs.lemmas.List.{get_or-set_same, get_or-set_other, get_or_default}
 use Rattle.std.proofs.lemmas.Nat.{mul-le}
 use Rattle.std.proofs.lemmas.Option.{same_Some}
@@ -8,15 +8,12 @@ use native.Mathlib.Decide.{ℕ_discrete}
 use Rattle.sift_base.specs.Units.{has, unit_limit}
 use Rattle.sift_base.specs.declared.slots.Layout.{Layout}
 use Rattle.sift_buffer.specs.Conduct.{Stray}
-use Rattle.sift_buffer.specs.Ranges.{IsCell}
-use Rattle.sift_buffer.specs.Tables.{ranges_of}
 use Rattle.sift_buffer.specs.Ledgers.{conduct_in}
 use Rattle.sift_buffer.specs.Crews.{ledger_at, with_strays}
-use Rattle.sift_buffer.specs.Racks.{ranges_for, conduct_at}
+use Rattle.sift_buffer.specs.Racks.{conduct_at}
 use Rattle.sift_buffer.specs.declared.rack.Rack.{Rack}
 use Rattle.sift_config.specs.laws.FirstUnits.{low_unit, unit_low}
 use Rattle.sift_rogue.specs.Storms.{Call, Started, Shoots, sifted, stray_of, StormsBy}
-use Rattle.sift_rogue.specs.declared.rogue.Shot.{Shot}
 use Rattle.sift_script.specs.declared.script.StormEntry.{StormEntry}
 use Rattle.sift_seat.specs.Seats.{HasCalls}
 use Rattle.sift_seat.specs.Storms.{storm_at, calls_of, calls_by, calls_left}

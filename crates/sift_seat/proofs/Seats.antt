@@ -1,9 +1,8 @@
 -- Turns of seats: what they keep, and what comes of them.
 use Rattle.std.proofs.Common.{◌≡◌, ⊎_elim, ℕ, ◌+◌, ◌-◌, ◌<◌, ◌≤◌, List, [], ◌++◌, Option, Some, None, option_map, option_to_list, refl, sym, ap, ◌∙◌, subst, arith}
 use Rattle.sift_buffer.specs.Conduct.{Stray, never}
-use Rattle.sift_buffer.specs.Views.{View, IsButForStrays}
+use Rattle.sift_buffer.specs.Views.{View}
 use Rattle.sift_rogue.specs.Storms.{Call, Started, StormsAddUp, Shoots, sifted, stray_of, StormsBy}
-use Rattle.sift_rogue.specs.declared.rogue.Act.{Act}
 use Rattle.sift_script.specs.declared.script.StormEntry.{StormEntry}
 use Rattle.sift_mission.specs.Data.{MissionData, FlownMission}
 use Rattle.sift_mission.specs.Flown.{flown}
@@ -14,7 +13,7 @@ use Rattle.sift_unit.specs.declared.board.Board.{Board}
 use Rattle.sift_unit.specs.declared.board.Stepped.{Stepped}
 use Rattle.sift_unit.specs.declared.board.Stepped.TheVariants.{Moved, NotYet, Turned, Landed}
 use Rattle.sift_seat.specs.Storms.{BeginsStorm, storm_at}
-use Rattle.sift_seat.specs.Seats.{Place, end_of, storm_of, sifted_at, HasNotTurned, IsStraying, IsManned, IsDone, StoresNext, Came, Comes}
+use Rattle.sift_seat.specs.Seats.{Place, end_of, storm_of, sifted_at, HasNotTurned, IsStraying, IsManned, IsDone, StoresNext, Comes}
 use Rattle.sift_seat.specs.declared.seat.Seat.{Seat}
 use Rattle.sift_seat.specs.laws.Ends.{end_low}
 use Rattle.sift_seat.proofs.Boards.{KeepsPlace, step_place, entered_progress, turned_left, below_end, above_end}

@@ -12,7 +12,8 @@ pub returns-then-not-is_spent-clause-found : goal.returns-then-not-is_spent-clau
 returns-then-not-is_spent-clause-found c =
     let low : c.numbered-unit.result < (layout_of c.args.self.now).units =
     (let units = ap (λ (l : Layout). l.units) c.layout-number-end.ensures in omega (arith, c.numbered-unit.ensures, c.loop-number-test.true)) in
-    let some : slice_index (lefts (data_of c.args.mission.now) c.args.self.now) c.numbered-unit.result ≢ 0 = eqb-false (slice_index (lefts (data_of c.args.mission.now) c.args.self.now) c.numbered-unit.result) 0 (sym c.if-not-is_spent.ensures) in
+    let some : slice_index (lefts (data_of c.args.mission.now) c.args.self.now) c.numbered-unit.result ≢ 0 = eqb-false (slice_index (lefts (data_of c.args.mission.now) c.args.self.now)
+    c.numbered-unit.result) 0 (sym c.if-not-is_spent.ensures) in
     record {
       unit = unit_there (flown_of c.args.mission.now) c.args.self.now c.numbered-unit.result c.requires.flies low;
       some = omega arith;

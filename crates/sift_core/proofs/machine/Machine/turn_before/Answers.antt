@@ -57,7 +57,8 @@ pub returns-in-Some-first_left-clause-turn : goal.returns-in-Some-first_left-cla
 returns-in-Some-first_left-clause-turn g c = first_turn g.R.Rogue.allows (data_of c.args.mission.now) (course_of (data_of c.args.mission.now) c.args.self.now c.args.rogues.now)
     c.args.drawer.now c.drawn_unit-drawn.new.drawer c.drawn_unit-drawn.result c.drawn_unit-drawn.ensures c.requires.under_way
     (course_of (data_of c.args.mission.now) c.goes_itself.new.self c.goes_itself.new.rogues) c.goes_itself.ensures.under_way c.if-goes_itself.ensures.tried c.in-Some-first_left.first
-    (course_of (data_of c.args.mission.now) c.spend_one.new.self c.spend_one.new.rogues) c.spend_one.ensures.under_way c.in_default.ensures.none c.in-Some-first_left.ensures.found c.spend_one.ensures.spent
+    (course_of (data_of c.args.mission.now) c.spend_one.new.self c.spend_one.new.rogues) c.spend_one.ensures.under_way c.in_default.ensures.none c.in-Some-first_left.ensures.found
+    c.spend_one.ensures.spent
 
 pub returns-in-Some-first_left-clause-storms : goal.returns-in-Some-first_left-clause-storms
 returns-in-Some-first_left-clause-storms g c = λ xs k. c.spend_one.ensures.storms xs (c.goes_itself.ensures.storms xs k)

@@ -1,6 +1,4 @@
-use Rattle.std.proofs.Common.{◌≡◌, refl, ap, ◌∙◌}
-use Rattle.sift_buffer.specs.Views.{View}
-use Rattle.sift_mission.specs.Data.{MissionData}
+use Rattle.std.proofs.Common.{refl, ap, ◌∙◌}
 use Rattle.sift_mission.specs.Parts.{data_of}
 use Rattle.sift_seat.specs.Seats.{place}
 use Rattle.sift_seat.specs.Storms.{storm_at}
