@@ -1,7 +1,7 @@
 //! The compiler: code of a task within the limits, or why there is none.
 
 ghost use Rattle.std.specs.Prelude.{◌≡◌, ◌<◌, ◌≤◌, length, Err, IsOk, IfOk, IfErr};
-ghost use Rattle.sift_code.specs.Bound.{kept};
+ghost use Rattle.sift_code.specs.Bound.{bound_of, kept};
 ghost use Rattle.sift_lang.specs.Tree.{tree_of};
 ghost use Rattle.sift_lang.specs.Sound.{IsSound};
 ghost use Rattle.sift_compile.specs.Code.{task_code, task_program};
@@ -72,11 +72,21 @@ pub fn compile(
         return Err(CompileStop::CodeTooLong { len });
     }
     let checked = check(alloc, task, sensors, words)?;
-    let bound = checked.bound();
+    within_budget(checked, budget)
+}
+
+/// The code, where a run of it takes no more instructions than the budget. It asks for no memory, so none is wanting.
+fn within_budget(code: Checked, budget: u32) -> Result<Checked, CompileStop>
+    requires { budget < 4294967295 }
+    ensures same { IfOk result (λ checked. checked ≡ code) }
+    ensures quick { IsOk result → bound_of code.code ≤ budget }
+    ensures slow { IfErr result (λ stop. (stop ≡ CompileStop.TooManySteps (kept (bound_of code.code))) × (budget < bound_of code.code)) }
+{
+    let bound = code.bound();
     if bound > budget {
         return Err(CompileStop::TooManySteps { bound });
     }
-    Ok(checked)
+    Ok(code)
 }
 
 /// The code of a task, checked.

@@ -15,6 +15,11 @@ abbrev pub Tests : {A : Type 0} → ℕ → (ℕ → Type 0) → Result A (Stop 
 Tests number BrokenAt (Ok value) = (place : ℕ) → ¬ BrokenAt place
 Tests number BrokenAt (Err why) = RefusesBy number BrokenAt why
 
+-- the same of a test that takes no memory, so it is never wanting
+abbrev pub Decides : {A : Type 0} → ℕ → (ℕ → Type 0) → Result A BrokenRule → Type 0
+Decides number BrokenAt (Ok value) = (place : ℕ) → ¬ BrokenAt place
+Decides number BrokenAt (Err broken) = RefusesBy number BrokenAt (stop.Refused broken)
+
 -- the first of the rules that is broken is refused; or memory was wanting
 abbrev pub RefusesFirst : List Rule → Stop BrokenRule → Type 0
 RefusesFirst rules why = IfRefused (λ broken. BreaksFirst rules broken.number broken.place) why
@@ -23,6 +28,11 @@ RefusesFirst rules why = IfRefused (λ broken. BreaksFirst rules broken.number b
 abbrev pub TestsEach : {A : Type 0} → List Rule → Result A (Stop BrokenRule) → Type 0
 TestsEach rules (Ok value) = AreKept rules
 TestsEach rules (Err why) = RefusesFirst rules why
+
+-- the same of tests that take no memory
+abbrev pub DecidesEach : {A : Type 0} → List Rule → Result A BrokenRule → Type 0
+DecidesEach rules (Ok value) = AreKept rules
+DecidesEach rules (Err broken) = RefusesFirst rules (stop.Refused broken)
 
 -- what was asked for is refused so, unless memory was wanting
 abbrev pub OnlyRefuses : {A E : Type 0} → E → Result A (Stop E) → Type 0

@@ -19,15 +19,37 @@ pub struct BrokenRule {
     pub place: u32,
 }
 
+impl BrokenRule {
+    /// The rule of this number, which is broken at an entry.
+    pub fn at(number: u32, entry: usize) -> BrokenRule
+        requires { entry < 2 ^ 32 }
+        ensures { result ≡ record { number = number; place = entry } }
+    {
+        BrokenRule {
+            number,
+            place: entry as u32,
+        }
+    }
+}
+
+// So a call that takes memory hands on, by `?`, what one that takes none refused.
+impl From<BrokenRule> for Stop<BrokenRule> {
+    ghost use Rattle.std.specs.Prelude.{◌≡◌};
+    ghost use Rattle.sift_base.specs.declared.stop.Stop.TheVariants as stop;
+
+    ghost from_gives = { λ broken came. came ≡ stop.Refused broken };
+
+    fn from(broken: BrokenRule) -> Self {
+        Stop::Refused(broken)
+    }
+}
+
 /// The refusal of a rule that is broken at an entry.
 pub fn broken(number: u32, entry: usize) -> Stop<BrokenRule>
     requires { entry < 2 ^ 32 }
     ensures { result ≡ Stop.Refused (record { number = number; place = entry }) }
 {
-    Stop::Refused(BrokenRule {
-        number,
-        place: entry as u32,
-    })
+    Stop::Refused(BrokenRule::at(number, entry))
 }
 
 /// The entries of an array that has from `low` to `high` of them, by the rule of this number.

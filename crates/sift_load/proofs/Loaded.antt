@@ -9,13 +9,24 @@ use Rattle.sift_scenario.specs.Mission.{IsMission}
 use Rattle.sift_scenario.specs.Refusal.{IsRefusedWith}
 use Rattle.sift_scenario.specs.declared.mission.Refused.TheVariants.{Scenario, Task, Table, Script}
 use Rattle.sift_load.specs.Laws.{OneMissionIsStated, OneReplyIsGiven, StatedMissionsAreUnrefused, StatusesAreOwn}
-use Rattle.sift_load.specs.Loads.{LoadsThen, IsDocument, StatesNone, no_mission_statuses, reply_to}
+use Rattle.sift_base.specs.Stop.{IfRefused}
+use Rattle.sift_base.specs.declared.stop.Stop.{Stop}
+use Rattle.sift_base.specs.declared.stop.Stop.TheVariants as stop
+use Rattle.sift_scenario.specs.declared.mission.Refused as document
+use Rattle.sift_load.specs.Loads.{LoadsThen, IsDocument, StatesNone, no_mission_of, no_mission_statuses, reply_to}
 use Rattle.sift_load.specs.declared.loading.NoMission.{NoMission}
 use Rattle.sift_load.specs.declared.loading.NoMission.TheVariants.{NotADocument, Refused}
 
 -- a document has one tree
 one_tree : (bytes : List ℕ) (one other : Members) → IsDocument bytes one → IsDocument bytes other → one ≡ other
 one_tree bytes one other reads reads' = cc (reads.1, reads'.1)
+
+-- a document that is refused states no mission, for that reason
+pub refused_so :
+    (bytes : List ℕ) (tree : Members) (why : Stop document.Refused) → IsDocument bytes tree → IfRefused (IsRefusedWith tree) why
+    → IfRefused (StatesNone bytes) (no_mission_of why)
+refused_so bytes tree (stop.Refused reason) reads refused = (tree, reads, refused)
+refused_so bytes tree stop.NoMemory reads wanting = tt
 
 -- bytes state one mission
 pub one_stated : OneMission → OneMissionIsStated

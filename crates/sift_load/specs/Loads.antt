@@ -8,6 +8,9 @@ use Rattle.sift_mission.specs.Data.{MissionData}
 use Rattle.sift_scenario.specs.Mission.{IsMission}
 use Rattle.sift_scenario.specs.Refusal.{IsRefusedWith}
 use Rattle.sift_reply.specs.Reply.{Reply}
+use Rattle.sift_base.specs.declared.stop.Stop.{Stop}
+use Rattle.sift_base.specs.declared.stop.Stop.TheVariants as stop
+use Rattle.sift_scenario.specs.declared.mission.Refused as document
 use Rattle.sift_scenario.specs.declared.mission.Refused.TheVariants.{Scenario, Task, Table, Script}
 use Rattle.sift_reply.specs.Duty.{Duty}
 use Rattle.sift_load.specs.declared.loading.NoMission.{NoMission}
@@ -27,6 +30,11 @@ States bytes mission = (document : Members) × IsDocument bytes document × IsMi
 abbrev pub StatesNone : List ℕ → NoMission → Type 0
 StatesNone bytes NotADocument = (document : Members) → ¬ IsDocument bytes document
 StatesNone bytes (Refused reason) = (document : Members) × IsDocument bytes document × IsRefusedWith document reason
+
+-- the refusal of a document as that of its bytes; or want of memory
+abbrev pub no_mission_of : Stop document.Refused → Stop NoMission
+no_mission_of (stop.Refused reason) = stop.Refused (Refused reason)
+no_mission_of stop.NoMemory = stop.NoMemory
 
 -- ---- the replies to bytes that state no mission
 

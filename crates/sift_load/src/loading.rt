@@ -1,10 +1,11 @@
 //! The mission that the bytes of an input state, or why they state none, and the commands about it.
 
 ghost use Rattle.std.specs.Prelude.{◌≡◌, IfOk, IfErr};
-ghost use Rattle.sift_load.specs.Loads.{reply_to, IsDocument, States, StatesNone, LoadsThen};
+ghost use Rattle.sift_load.specs.Loads.{no_mission_of, reply_to, IsDocument, States, StatesNone, LoadsThen};
 ghost use Rattle.sift_base.specs.Stop.{IfRefused};
 ghost use Rattle.sift_mission.specs.Parts.{data_of};
 ghost use Rattle.toml.specs.Data.{Members};
+ghost use Rattle.toml.specs.Errors.{IsMemory};
 ghost use Rattle.toml.specs.View.{table_view};
 ghost use Rattle.sift_mission.specs.Data.{MissionData};
 ghost use Rattle.sift_reply.specs.Begun.{ComesTo};
@@ -89,8 +90,19 @@ pub fn read_document(alloc: Global, bytes: &[u8]) -> Result<Table, Stop<NoMissio
 {
     match toml::table_from_slice(alloc, bytes) {
         Ok(document) => Ok(document),
-        Err(error) if error.is_memory() => Err(Stop::NoMemory),
-        Err(_) => Err(Stop::Refused(NoMission::NotADocument)),
+        Err(error) => Err(no_document(error)),
+    }
+}
+
+/// What an error of the reader says: the bytes are no document, unless memory was wanting.
+fn no_document(error: toml::de::Error) -> Stop<NoMission>
+    ensures wanting { IsMemory error → result ≡ Stop.NoMemory }
+    ensures refused { ¬ IsMemory error → result ≡ Stop.Refused NoMission.NotADocument }
+{
+    if error.is_memory() {
+        Stop::NoMemory
+    } else {
+        Stop::Refused(NoMission::NotADocument)
     }
 }
 
@@ -102,8 +114,17 @@ pub fn load(alloc: Global, bytes: &[u8]) -> Result<Mission, Stop<NoMission>>
     let document = read_document(alloc, bytes)?;
     match mission_of(alloc, &document) {
         Ok(mission) => Ok(mission),
-        Err(Stop::Refused(reason)) => Err(Stop::Refused(NoMission::Refused(reason))),
-        Err(Stop::NoMemory) => Err(Stop::NoMemory),
+        Err(stop) => Err(no_mission(stop)),
+    }
+}
+
+/// The refusal of a document as the reason why its bytes state no mission; or want of memory.
+fn no_mission(stop: Stop<Refused>) -> Stop<NoMission>
+    ensures { result ≡ no_mission_of stop }
+{
+    match stop {
+        Stop::Refused(reason) => Stop::Refused(NoMission::Refused(reason)),
+        Stop::NoMemory => Stop::NoMemory,
     }
 }
 

@@ -6,7 +6,7 @@ ghost use Rattle.sift_table.specs.Schedule.{shortest_period, agreed_in, hearing_
 ghost use Rattle.sift_mission.specs.PartsFit.{longest_period};
 ghost use Rattle.sift_document.specs.Document.{HasOnlyKeys, integer_between, read_or};
 ghost use Rattle.sift_document.specs.Rules.{OfNoEntry};
-ghost use Rattle.sift_document.specs.Testing.{Tests, TestsEach, RefusesFirst};
+ghost use Rattle.sift_document.specs.Testing.{Decides, DecidesEach, RefusesFirst};
 ghost use Rattle.sift_scenario.specs.Root.{frames_of, period_of, root_keys, root_rules, units_of, version_of};
 ghost use Rattle.sift_base.specs.Shapes.{task_limit};
 ghost use Rattle.sift_table.specs.Rules.{report_lead};
@@ -15,7 +15,7 @@ ghost use Rattle.sift_scenario.specs.Reading.{IsReadOf};
 
 use crate::entries::{Sensors, Tasks, sensors_of, tasks_of};
 use sift_base::Stop;
-use sift_document::{BrokenRule, broken, has_only_keys, number_at, optional_between};
+use sift_document::{BrokenRule, has_only_keys, number_at, optional_between};
 use sift_script::Script;
 use sift_sections::{check_sheds, script_of, stated_clocks, tables_of};
 use sift_skew::ClockPlan;
@@ -35,14 +35,14 @@ pub(crate) struct Root {
 }
 
 /// What the root states beside its entries.
-fn root_of(document: &toml::Table) -> Result<Root, Stop<BrokenRule>>
+fn root_of(document: &toml::Table) -> Result<Root, BrokenRule>
     ensures version { IfOk result (λ root. version_of (table_view document.now) ≡ Some root.version) }
     ensures units { IfOk result (λ root. units_of (table_view document.now) ≡ Some root.units) }
     ensures frames { IfOk result (λ root. frames_of (table_view document.now) ≡ Some root.frames) }
     ensures subframes { IfOk result (λ root. (unstated : ℕ) →
         read_or unstated (integer_between shortest_period longest_period) (codes "subframes") (table_view document.now)
         ≡ Some (unwrap_or root.subframes unstated)) }
-    ensures tests { TestsEach (root_rules (table_view document.now)) result }
+    ensures tests { DecidesEach (root_rules (table_view document.now)) result }
 {
     check_keys(document)?;
     let units = units_of(document)?;
@@ -58,8 +58,8 @@ fn root_of(document: &toml::Table) -> Result<Root, Stop<BrokenRule>>
 }
 
 /// Tests the keys of the root.
-fn check_keys(document: &toml::Table) -> Result<(), Stop<BrokenRule>>
-    ensures { Tests 1 (OfNoEntry (¬ HasOnlyKeys root_keys (table_view document.now))) result }
+fn check_keys(document: &toml::Table) -> Result<(), BrokenRule>
+    ensures { Decides 1 (OfNoEntry (¬ HasOnlyKeys root_keys (table_view document.now))) result }
 {
     if has_only_keys(
         document,
@@ -77,50 +77,50 @@ fn check_keys(document: &toml::Table) -> Result<(), Stop<BrokenRule>>
     ) {
         Ok(())
     } else {
-        Err(broken(1, 0))
+        Err(BrokenRule::at(1, 0))
     }
 }
 
 /// How many units fly.
-fn units_of(document: &toml::Table) -> Result<u8, Stop<BrokenRule>>
+fn units_of(document: &toml::Table) -> Result<u8, BrokenRule>
     ensures units { IfOk result (λ units. units_of (table_view document.now) ≡ Some units) }
-    ensures tests { Tests 2 (OfNoEntry (units_of (table_view document.now) ≡ None)) result }
+    ensures tests { Decides 2 (OfNoEntry (units_of (table_view document.now) ≡ None)) result }
 {
     match number_at(document, "units", 4, 8) {
         Some(units) => Ok(units as u8),
-        None => Err(broken(2, 0)),
+        None => Err(BrokenRule::at(2, 0)),
     }
 }
 
 /// How many frames are flown.
-fn frames_of(document: &toml::Table) -> Result<u32, Stop<BrokenRule>>
+fn frames_of(document: &toml::Table) -> Result<u32, BrokenRule>
     ensures frames { IfOk result (λ frames. frames_of (table_view document.now) ≡ Some frames) }
-    ensures tests { Tests 3 (OfNoEntry (frames_of (table_view document.now) ≡ None)) result }
+    ensures tests { Decides 3 (OfNoEntry (frames_of (table_view document.now) ≡ None)) result }
 {
-    number_at(document, "frames", 1, 1_000).ok_or(broken(3, 0))
+    number_at(document, "frames", 1, 1_000).ok_or(BrokenRule::at(3, 0))
 }
 
 /// The version, which is 1 where none is stated.
-fn version_of(document: &toml::Table) -> Result<u32, Stop<BrokenRule>>
+fn version_of(document: &toml::Table) -> Result<u32, BrokenRule>
     ensures version { IfOk result (λ version. version_of (table_view document.now) ≡ Some version) }
-    ensures tests { Tests 4 (OfNoEntry (version_of (table_view document.now) ≡ None)) result }
+    ensures tests { Decides 4 (OfNoEntry (version_of (table_view document.now) ≡ None)) result }
 {
     match optional_between(document, "version", 1, 2) {
         Some(version) => Ok(version.unwrap_or(1)),
-        None => Err(broken(4, 0)),
+        None => Err(BrokenRule::at(4, 0)),
     }
 }
 
 /// How many subframes a frame has, where it is stated.
-fn subframes_of(document: &toml::Table) -> Result<Option<u32>, Stop<BrokenRule>>
+fn subframes_of(document: &toml::Table) -> Result<Option<u32>, BrokenRule>
     ensures subframes { IfOk result (λ subframes. (unstated : ℕ) →
         read_or unstated (integer_between shortest_period longest_period) (codes "subframes") (table_view document.now)
         ≡ Some (unwrap_or subframes unstated)) }
-    ensures tests { Tests 5 (OfNoEntry (period_of (table_view document.now) ≡ None)) result }
+    ensures tests { Decides 5 (OfNoEntry (period_of (table_view document.now) ≡ None)) result }
 {
     match optional_between(document, "subframes", 12, 64) {
         Some(subframes) => Ok(subframes),
-        None => Err(broken(5, 0)),
+        None => Err(BrokenRule::at(5, 0)),
     }
 }
 

@@ -4,7 +4,7 @@ ghost use Rattle.std.specs.Prelude.{◌≡◌, ◌<◌, ◌≤◌, ◌↔◌, �
 ghost use Rattle.toml.specs.View.{table_view, view};
 ghost use Rattle.sift_document.specs.Document.{IsArrayOf, entries_of, members_of, IsTableOf, tables_in, word_array};
 ghost use Rattle.sift_document.specs.Rules.{HoldsOf, BreaksEntries};
-ghost use Rattle.sift_document.specs.Testing.{Tests, TestsEach};
+ghost use Rattle.sift_document.specs.Testing.{Decides, Tests, TestsEach};
 ghost use Rattle.sift_scenario.specs.Task.{IsNewName, name_of, BreaksNames, BreaksTasks, task_rules, AreForms, Form as Stated, HasForm, counts_of, start_words, tasks_of, task_outputs};
 ghost use Rattle.toml.specs.Data.{get_member};
 ghost use Rattle.sift_base.specs.Layout.{sensor_limit, word_limit};
@@ -250,16 +250,16 @@ fn start_words(task: &Table) -> Option<Starts>
 }
 
 /// Tests how many output words there are, where these are the start words of the tasks.
-fn check_words(starts: &[Starts]) -> Result<(), Stop<BrokenRule>>
+fn check_words(starts: &[Starts]) -> Result<(), BrokenRule>
     requires { length starts.now ≤ task_limit }
-    ensures { Tests 21 (λ place. (place < length starts.now)
+    ensures { Decides 21 (λ place. (place < length starts.now)
         × (word_limit < sum (take (place + 1) (map (λ words. length words.items) starts.now)))) result }
 {
     let mut words = 0;
     for (place, task) in starts.iter().enumerate() {
         words += task.len();
         if words > WORD_LIMIT {
-            return Err(broken(21, place));
+            return Err(BrokenRule::at(21, place));
         }
     }
     Ok(())

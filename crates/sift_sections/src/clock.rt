@@ -8,13 +8,12 @@ ghost use Rattle.sift_base.specs.Units.{unit_limit};
 ghost use Rattle.sift_mission.specs.Parts.{clocks_of};
 ghost use Rattle.sift_document.specs.Document.{IsTableOf, array_between, integer_between, members_of, read_or};
 ghost use Rattle.sift_document.specs.Rules.{OfNoEntry};
-ghost use Rattle.sift_document.specs.Testing.{Tests, TestsEach};
+ghost use Rattle.sift_document.specs.Testing.{Decides, DecidesEach};
 ghost use Rattle.sift_sections.specs.Clock.{StartTogether, clock_keys, clock_rules, clocks_in, drifts_of, error_of, errors_of, figure_rules, length_of, rate_of, skew_of, starts_of, tick_limit, ticks_within, unit_ticks};
 ghost use Rattle.sift_clock.specs.Distance.{IsWithin};
 
 use arrayvec::ArrayVec;
-use sift_base::Stop;
-use sift_document::{BrokenRule, broken, member_of, number_at, optional_between, table_of};
+use sift_document::{BrokenRule, member_of, number_at, optional_between, table_of};
 use sift_skew::ClockPlan;
 use toml::{Table, Value};
 
@@ -36,10 +35,10 @@ struct Figures {
 ///
 /// Where the table breaks a rule, this is the first of rules 6 to 14 that it breaks. Each speaks of the whole table, so its
 /// place is 0.
-pub fn stated_clocks(document: &Table, units: u8) -> Result<ClockPlan, Stop<BrokenRule>>
+pub fn stated_clocks(document: &Table, units: u8) -> Result<ClockPlan, BrokenRule>
     requires { units ≤ unit_limit }
     ensures read { IfOk result (λ plan. clocks_of plan ≡ clocks_in units (get_member (codes "clock") (table_view document.now))) }
-    ensures tests { TestsEach (clock_rules units (get_member (codes "clock") (table_view document.now))) result }
+    ensures tests { DecidesEach (clock_rules units (get_member (codes "clock") (table_view document.now))) result }
 {
     match member_of(document, "clock") {
         Some(value) => stated_plan(value, units),
@@ -48,10 +47,10 @@ pub fn stated_clocks(document: &Table, units: u8) -> Result<ClockPlan, Stop<Brok
 }
 
 /// The clocks that the value of `clock` states.
-fn stated_plan(value: &Value, units: u8) -> Result<ClockPlan, Stop<BrokenRule>>
+fn stated_plan(value: &Value, units: u8) -> Result<ClockPlan, BrokenRule>
     requires { units ≤ unit_limit }
     ensures read { IfOk result (λ plan. clocks_of plan ≡ clocks_in units (Some (view value.now))) }
-    ensures tests { TestsEach (clock_rules units (Some (view value.now))) result }
+    ensures tests { DecidesEach (clock_rules units (Some (view value.now))) result }
 {
     let clock = clock_table(value)?;
     let figures = figures_of(clock)?;
@@ -70,9 +69,9 @@ fn stated_plan(value: &Value, units: u8) -> Result<ClockPlan, Stop<BrokenRule>>
 }
 
 /// The table of a clock.
-fn clock_table(value: &Value) -> Result<&Table, Stop<BrokenRule>>
+fn clock_table(value: &Value) -> Result<&Table, BrokenRule>
     ensures read { IfOk result (λ clock. table_view clock.now ≡ members_of (view value.now)) }
-    ensures tests { Tests 6 (OfNoEntry (¬ IsTableOf clock_keys (view value.now))) result }
+    ensures tests { Decides 6 (OfNoEntry (¬ IsTableOf clock_keys (view value.now))) result }
 {
     match table_of(
         value,
@@ -81,17 +80,17 @@ fn clock_table(value: &Value) -> Result<&Table, Stop<BrokenRule>>
         ],
     ) {
         Some(clock) => Ok(clock),
-        None => Err(broken(6, 0)),
+        None => Err(BrokenRule::at(6, 0)),
     }
 }
 
 /// The four figures of a clock.
-fn figures_of(clock: &Table) -> Result<Figures, Stop<BrokenRule>>
+fn figures_of(clock: &Table) -> Result<Figures, BrokenRule>
     ensures skew { IfOk result (λ figures. skew_of (table_view clock.now) ≡ Some figures.skew) }
     ensures error { IfOk result (λ figures. error_of (table_view clock.now) ≡ Some figures.error) }
     ensures rate { IfOk result (λ figures. rate_of (table_view clock.now) ≡ Some figures.rate) }
     ensures length { IfOk result (λ figures. length_of (table_view clock.now) ≡ Some figures.length) }
-    ensures tests { TestsEach (figure_rules (table_view clock.now)) result }
+    ensures tests { DecidesEach (figure_rules (table_view clock.now)) result }
 {
     let skew = skew_of(clock)?;
     let (error, rate) = error_and_rate(clock)?;
@@ -107,25 +106,25 @@ fn figures_of(clock: &Table) -> Result<Figures, Stop<BrokenRule>>
 }
 
 /// The most that working clocks differ by.
-fn skew_of(clock: &Table) -> Result<u32, Stop<BrokenRule>>
+fn skew_of(clock: &Table) -> Result<u32, BrokenRule>
     ensures read { IfOk result (λ skew. skew_of (table_view clock.now) ≡ Some skew) }
-    ensures tests { Tests 7 (OfNoEntry (skew_of (table_view clock.now) ≡ None)) result }
+    ensures tests { Decides 7 (OfNoEntry (skew_of (table_view clock.now) ≡ None)) result }
 {
-    number_at(clock, "skew", 0, TICK_LIMIT).ok_or(broken(7, 0))
+    number_at(clock, "skew", 0, TICK_LIMIT).ok_or(BrokenRule::at(7, 0))
 }
 
 /// The most that a reading is wrong by, and the most that a clock drifts by in a frame.
-fn error_and_rate(clock: &Table) -> Result<(u32, u32), Stop<BrokenRule>>
+fn error_and_rate(clock: &Table) -> Result<(u32, u32), BrokenRule>
     ensures error { IfOk result (λ both. error_of (table_view clock.now) ≡ Some both.0) }
     ensures rate { IfOk result (λ both. rate_of (table_view clock.now) ≡ Some both.1) }
-    ensures tests { Tests 8 (OfNoEntry ((error_of (table_view clock.now) ≡ None) ⊎ (rate_of (table_view clock.now) ≡ None))) result }
+    ensures tests { Decides 8 (OfNoEntry ((error_of (table_view clock.now) ≡ None) ⊎ (rate_of (table_view clock.now) ≡ None))) result }
 {
     match (
         number_or_zero(clock, "error"),
         number_or_zero(clock, "rate"),
     ) {
         (Some(error), Some(rate)) => Ok((error, rate)),
-        _ => Err(broken(8, 0)),
+        _ => Err(BrokenRule::at(8, 0)),
     }
 }
 
@@ -137,62 +136,62 @@ fn number_or_zero(clock: &Table, key: &str) -> Option<u32>
 }
 
 /// The length of a subframe.
-fn length_of(clock: &Table) -> Result<u32, Stop<BrokenRule>>
+fn length_of(clock: &Table) -> Result<u32, BrokenRule>
     ensures read { IfOk result (λ length. length_of (table_view clock.now) ≡ Some length) }
-    ensures tests { Tests 9 (OfNoEntry (length_of (table_view clock.now) ≡ None)) result }
+    ensures tests { Decides 9 (OfNoEntry (length_of (table_view clock.now) ≡ None)) result }
 {
-    number_at(clock, "length", 1, 1_000_000).ok_or(broken(9, 0))
+    number_at(clock, "length", 1, 1_000_000).ok_or(BrokenRule::at(9, 0))
 }
 
 /// Tests that the correction of the clocks keeps the skew.
-fn check_skew(skew: u32, error: u32, rate: u32) -> Result<(), Stop<BrokenRule>>
+fn check_skew(skew: u32, error: u32, rate: u32) -> Result<(), BrokenRule>
     requires error { error ≤ tick_limit }
     requires rate { rate ≤ tick_limit }
-    ensures { Tests 10 (OfNoEntry (skew < 5 * (error + rate))) result }
+    ensures { Decides 10 (OfNoEntry (skew < 5 * (error + rate))) result }
 {
     if 5 * (error + rate) <= skew {
         Ok(())
     } else {
-        Err(broken(10, 0))
+        Err(BrokenRule::at(10, 0))
     }
 }
 
 /// Tests that a subframe is longer than any clock leads another.
-fn check_length(skew: u32, error: u32, rate: u32, length: u32) -> Result<(), Stop<BrokenRule>>
+fn check_length(skew: u32, error: u32, rate: u32, length: u32) -> Result<(), BrokenRule>
     requires skew { skew ≤ tick_limit }
     requires error { error ≤ tick_limit }
     requires rate { rate ≤ tick_limit }
-    ensures { Tests 11 (OfNoEntry (length < 2 * skew + error + rate + 1)) result }
+    ensures { Decides 11 (OfNoEntry (length < 2 * skew + error + rate + 1)) result }
 {
     if 2 * skew + error + rate < length {
         Ok(())
     } else {
-        Err(broken(11, 0))
+        Err(BrokenRule::at(11, 0))
     }
 }
 
 /// The offset of each unit's clock at the start.
-fn starts_of(clock: &Table, units: u8, skew: u32) -> Result<ArrayVec<i32, 8>, Stop<BrokenRule>>
+fn starts_of(clock: &Table, units: u8, skew: u32) -> Result<ArrayVec<i32, 8>, BrokenRule>
     requires units { units ≤ unit_limit }
     requires skew { skew ≤ tick_limit }
     ensures read { IfOk result (λ starts. starts_of units (table_view clock.now) ≡ Some starts.items) }
-    ensures tests { Tests 12 (OfNoEntry ((starts : List ℤ) →
+    ensures tests { Decides 12 (OfNoEntry ((starts : List ℤ) →
         (starts_of units (table_view clock.now) ≡ Some starts) → ¬ StartTogether skew starts)) result }
 {
     match ticks_at(clock, "start", units, TICK_LIMIT) {
         Some(starts) if are_together(&starts, skew) => Ok(starts),
-        _ => Err(broken(12, 0)),
+        _ => Err(BrokenRule::at(12, 0)),
     }
 }
 
 /// The drift of each unit's clock in a frame.
-fn drifts_of(clock: &Table, units: u8, rate: u32) -> Result<ArrayVec<i32, 8>, Stop<BrokenRule>>
+fn drifts_of(clock: &Table, units: u8, rate: u32) -> Result<ArrayVec<i32, 8>, BrokenRule>
     requires units { units ≤ unit_limit }
     requires rate { rate ≤ tick_limit }
     ensures read { IfOk result (λ drifts. drifts_of units rate (table_view clock.now) ≡ Some drifts.items) }
-    ensures tests { Tests 13 (OfNoEntry (drifts_of units rate (table_view clock.now) ≡ None)) result }
+    ensures tests { Decides 13 (OfNoEntry (drifts_of units rate (table_view clock.now) ≡ None)) result }
 {
-    ticks_at(clock, "drift", units, rate).ok_or(broken(13, 0))
+    ticks_at(clock, "drift", units, rate).ok_or(BrokenRule::at(13, 0))
 }
 
 /// By how much each unit misreads the clock of each unit.
@@ -200,13 +199,13 @@ fn errors_of(
     clock: &Table,
     units: u8,
     error: u32,
-) -> Result<ArrayVec<ArrayVec<i32, 8>, 8>, Stop<BrokenRule>>
+) -> Result<ArrayVec<ArrayVec<i32, 8>, 8>, BrokenRule>
     requires units { units ≤ unit_limit }
     requires error { error ≤ tick_limit }
     ensures read { IfOk result (λ rows. errors_of units error (table_view clock.now) ≡ Some (map (λ row. row.items) rows.items)) }
-    ensures tests { Tests 14 (OfNoEntry (errors_of units error (table_view clock.now) ≡ None)) result }
+    ensures tests { Decides 14 (OfNoEntry (errors_of units error (table_view clock.now) ≡ None)) result }
 {
-    rows_at(clock, units, error).ok_or(broken(14, 0))
+    rows_at(clock, units, error).ok_or(BrokenRule::at(14, 0))
 }
 
 /// Whether no two of the offsets differ by more than the skew.

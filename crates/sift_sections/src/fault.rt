@@ -7,7 +7,7 @@ ghost use Rattle.toml.specs.View.{table_view, view};
 ghost use Rattle.sift_script.specs.Script.{change_of, changing, failing_of, fault_of, faults_of};
 ghost use Rattle.sift_document.specs.Document.{IsTableOf, each_read, members_of, tables_in};
 ghost use Rattle.sift_document.specs.Rules.{BreaksEntries, HoldsOf};
-ghost use Rattle.sift_document.specs.Testing.{Tests, TestsEach};
+ghost use Rattle.sift_document.specs.Testing.{Decides, Tests, TestsEach};
 ghost use Rattle.sift_sections.specs.Fault.{AreItems, StandsAlone, changes_of, fault_in, fault_limit, fault_rules, from_of, stated_storm, unit_of};
 ghost use Rattle.sift_sections.specs.Item.{change_in, item_keys};
 ghost use Rattle.sift_sections.specs.Reading.{AreFaultsRead};
@@ -111,15 +111,15 @@ fn head_of(fault: &Table) -> Option<Head>
 }
 
 /// Tests that each fault fails in one way.
-fn check_ways(tables: &[&Table]) -> Result<(), Stop<BrokenRule>>
+fn check_ways(tables: &[&Table]) -> Result<(), BrokenRule>
     requires { length tables.now ≤ fault_limit }
-    ensures { Tests 28 (λ place. HoldsOf (map (λ fault. table_view fault.now) tables.now) place
+    ensures { Decides 28 (λ place. HoldsOf (map (λ fault. table_view fault.now) tables.now) place
         (λ fault. ¬ (StandsAlone (codes "say") (codes "storm") AreItems fault
         ⊎ StandsAlone (codes "storm") (codes "say") (IsTableOf (codes "number" ∷ codes "strays" ∷ [])) fault))) result }
 {
     for (place, fault) in tables.iter().enumerate() {
         if !has_one_way(fault) {
-            return Err(broken(28, place));
+            return Err(BrokenRule::at(28, place));
         }
     }
     Ok(())

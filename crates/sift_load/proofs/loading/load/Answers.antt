@@ -1,6 +1,7 @@
+use Rattle.sift_load.proofs.Loaded.{refused_so}
 use Rattle.sift_load.proofs.loading.load.Goals as goal
 
--- a document that is refused so
-pub returns-in-Err-Refused-clause-refused : goal.returns-in-Err-Refused-clause-refused
-returns-in-Err-Refused-clause-refused c =
-    (_, c.in_ok-document.ensures.document, rw c.in-Err-Refused.field-0-is at c.in-Err-Refused.ensures.refused)
+-- a document that is refused
+pub returns-clause-refused : goal.returns-clause-refused
+returns-clause-refused c =
+    rw c.no_mission.ensures (refused_so c.args.bytes.now _ _ c.in_ok-document.ensures.document c.in-Err.ensures.refused)

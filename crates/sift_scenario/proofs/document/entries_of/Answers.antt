@@ -5,6 +5,7 @@ use Rattle.toml.specs.Data.{get_member}
 use Rattle.toml.specs.View.{table_view}
 use Rattle.sift_base.specs.Layout.{least_units}
 use Rattle.sift_base.specs.Units.{unit_limit}
+use Rattle.sift_base.specs.declared.stop.Stop.TheVariants as stop
 use Rattle.sift_table.specs.Rules.{report_lead}
 use Rattle.sift_table.specs.Schedule.{agreed_in, hearing_delay, shortest_period}
 use Rattle.sift_document.specs.Document.{members_of}
@@ -23,14 +24,14 @@ use Rattle.sift_scenario.proofs.document.entries_of.Goals as goal
 -- a rule of the root is broken
 pub returns-in_err-root-clause-refused : goal.returns-in_err-root-clause-refused
 returns-in_err-root-clause-refused c =
-    let same : c.from_residual.result ≡ Err c.in_err-root.field-0.0 = search rules in
-    rw same (root_refused (table_view c.args.document.now) c.in_err-root.field-0.0 c.in_err-root.ensures.tests)
+    let same : c.from_residual.result ≡ Err (stop.Refused c.in_err-root.field-0.0) = search rules in
+    rw same (root_refused (table_view c.args.document.now) (stop.Refused c.in_err-root.field-0.0) c.in_err-root.ensures.tests)
 
 -- a rule of the clock is
 pub returns-in_err-clock-clause-refused : goal.returns-in_err-clock-clause-refused
 returns-in_err-clock-clause-refused c =
-    let same : c.from_residual-in_err-clock.result ≡ Err c.in_err-clock.field-0.0 = search rules in
-    rw same (theme_refused (table_view c.args.document.now) c.in_ok-root.root.units c.in_ok-root.ensures.units 1 c.in_err-clock.field-0.0
+    let same : c.from_residual-in_err-clock.result ≡ Err (stop.Refused c.in_err-clock.field-0.0) = search rules in
+    rw same (theme_refused (table_view c.args.document.now) c.in_ok-root.root.units c.in_ok-root.ensures.units 1 (stop.Refused c.in_err-clock.field-0.0)
     (c.in_ok-root.ensures.tests, c.in_err-clock.ensures.tests))
 
 pub stated_clocks-requires : goal.stated_clocks-requires

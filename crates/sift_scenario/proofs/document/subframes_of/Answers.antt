@@ -9,4 +9,4 @@ pub returns-in-Some-clause-tests : goal.returns-in-Some-clause-tests
 returns-in-Some-clause-tests c = kept_of_none _ (λ none. let wrong : Some _ ≡ None = c.in-Some.ensures _ ∙ none in cc wrong)
 
 pub returns-in-None-clause-tests : goal.returns-in-None-clause-tests
-returns-in-None-clause-tests c = rw c.broken.ensures (refused_of_none 5 _ (sym (c.in-None.ensures _)))
+returns-in-None-clause-tests c = rw c.at.ensures (refused_of_none 5 _ (sym (c.in-None.ensures _)))

@@ -9,4 +9,4 @@ pub returns-in-Some-clause-tests : goal.returns-in-Some-clause-tests
 returns-in-Some-clause-tests c = kept_of_none _ (λ none. let wrong : Some _ ≡ None = c.in-Some.ensures 1 ∙ none in cc wrong)
 
 pub returns-in-None-clause-tests : goal.returns-in-None-clause-tests
-returns-in-None-clause-tests c = rw c.broken.ensures (refused_of_none 4 _ (sym (c.in-None.ensures 1)))
+returns-in-None-clause-tests c = rw c.at.ensures (refused_of_none 4 _ (sym (c.in-None.ensures 1)))

@@ -7,7 +7,7 @@ use Rattle.sift_scenario.proofs.entries.check_words.Goals as goal
 pub returns-then-words-gt-WORD_LIMIT : goal.returns-then-words-gt-WORD_LIMIT
 returns-then-words-gt-WORD_LIMIT c =
     let more = sum_take-more (λ words. length words.items) c.args.starts.now _ _ c.loop-place-test.true c.index-starts-place.is in
-    rw c.broken.ensures (first_broken 21 _ _
+    rw c.at.ensures (first_broken 21 _ _
     (c.loop-place-test.true, omega (arith, more, c.loop-place.invariant.0, c.len-words.ensures.value, c.if-words-gt-WORD_LIMIT.true))
     c.loop-place.invariant.2)
 

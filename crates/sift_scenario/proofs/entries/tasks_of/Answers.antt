@@ -3,6 +3,7 @@ use Rattle.std.proofs.lemmas.List.{length-map}
 use Rattle.std.specs.List.{sum}
 use Rattle.toml.specs.View.{table_view}
 use Rattle.sift_base.specs.Layout.{word_limit}
+use Rattle.sift_base.specs.declared.stop.Stop.TheVariants as stop
 use Rattle.sift_document.specs.Testing.{RefusesBy}
 use Rattle.sift_document.specs.laws.Order.{stopped}
 use Rattle.sift_sections.specs.laws.Values.{read_values}
@@ -34,16 +35,16 @@ returns-in_err-starts-clause-tests c =
 -- with a task there are too many words
 pub returns-in_err-check_words-clause-tests : goal.returns-in_err-check_words-clause-tests
 returns-in_err-check_words-clause-tests c =
-    let same : c.from_residual-in_err-check_words.result ≡ Err c.in_err-check_words.field-0.0 = search rules in
+    let same : c.from_residual-in_err-check_words.result ≡ Err (stop.Refused c.in_err-check_words.field-0.0) = search rules in
     let tasks = tasks_of (table_view c.args.document.now) in
     let named = rw (c.deref.ensures.value, c.in_ok-tables.ensures.tables) at c.in_ok-names.ensures.tests in
     let starting = rw (c.deref-2.ensures.value, c.in_ok-tables.ensures.tables) at c.in_ok-starts.ensures.tests in
     let started = (rw c.deref-2.ensures.value at c.in_ok-starts.ensures.starts) ∙ read_values (λ task. table_view task.now) start_words c.in_ok-tables.tables.items
     ∙ ap (map start_words) c.in_ok-tables.ensures.tables in
     let counts = counts_from (λ words. words.items) tasks c.in_ok-starts.starts.items started in
-    let many : RefusesBy 21 (λ place. (place < length (counts_of tasks)) × (word_limit < sum (take (place + 1) (counts_of tasks)))) c.in_err-check_words.field-0.0 =
+    let many : RefusesBy 21 (λ place. (place < length (counts_of tasks)) × (word_limit < sum (take (place + 1) (counts_of tasks)))) (stop.Refused c.in_err-check_words.field-0.0) =
     rw (← counts, length-map) (rw c.deref-3.ensures.value at c.in_err-check_words.ensures) in
-    rw same (stopped 3 (task_rules (table_view c.args.document.now)) c.in_err-check_words.field-0.0
+    rw same (stopped 3 (task_rules (table_view c.args.document.now)) (stop.Refused c.in_err-check_words.field-0.0)
     (c.in_ok-tables.ensures.tests, (named, (starting, many))))
 
 -- each task has as many words as start words

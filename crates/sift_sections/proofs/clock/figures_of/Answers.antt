@@ -1,5 +1,6 @@
 use Rattle.std.proofs.Common.{◌≡◌, Err, rules}
 use Rattle.toml.specs.View.{table_view}
+use Rattle.sift_base.specs.declared.stop.Stop.TheVariants as stop
 use Rattle.sift_document.specs.laws.Order.{stopped}
 use Rattle.sift_sections.specs.Clock.{figure_rules}
 use Rattle.sift_sections.proofs.Figures.{few_error, few_rate, few_skew, length_kept, length_refused, skew_kept, skew_refused}
@@ -25,17 +26,17 @@ check_length-requires-clause-rate c = few_rate (table_view c.args.clock.now) _ c
 pub returns-in_err-skew-clause-tests : goal.returns-in_err-skew-clause-tests
 returns-in_err-skew-clause-tests c =
     let same : c.from_residual.result ≡ Err c.in_err-skew.field-0.0 = search rules in
-    rw same (stopped 0 (figure_rules (table_view c.args.clock.now)) c.in_err-skew.field-0.0 c.in_err-skew.ensures.tests)
+    rw same (stopped 0 (figure_rules (table_view c.args.clock.now)) (stop.Refused c.in_err-skew.field-0.0) c.in_err-skew.ensures.tests)
 
 pub returns-in_err-error-clause-tests : goal.returns-in_err-error-clause-tests
 returns-in_err-error-clause-tests c =
     let same : c.from_residual-in_err-error.result ≡ Err c.in_err-error.field-0.0 = search rules in
-    rw same (stopped 1 (figure_rules (table_view c.args.clock.now)) c.in_err-error.field-0.0 (c.in_ok-skew.ensures.tests, c.in_err-error.ensures.tests))
+    rw same (stopped 1 (figure_rules (table_view c.args.clock.now)) (stop.Refused c.in_err-error.field-0.0) (c.in_ok-skew.ensures.tests, c.in_err-error.ensures.tests))
 
 pub returns-in_err-length-clause-tests : goal.returns-in_err-length-clause-tests
 returns-in_err-length-clause-tests c =
     let same : c.from_residual-in_err-length.result ≡ Err c.in_err-length.field-0.0 = search rules in
-    rw same (stopped 2 (figure_rules (table_view c.args.clock.now)) c.in_err-length.field-0.0
+    rw same (stopped 2 (figure_rules (table_view c.args.clock.now)) (stop.Refused c.in_err-length.field-0.0)
     (c.in_ok-skew.ensures.tests, (c.in_ok-error.ensures.tests, c.in_err-length.ensures.tests)))
 
 pub returns-in_err-check_skew-clause-tests : goal.returns-in_err-check_skew-clause-tests
@@ -43,8 +44,8 @@ returns-in_err-check_skew-clause-tests c =
     let same : c.from_residual-in_err-check_skew.result ≡ Err c.in_err-check_skew.field-0.0 = search rules in
     let clock = table_view c.args.clock.now in
     let refused = skew_refused clock _ _ _ c.in_ok-skew.ensures.read c.in_ok-error.ensures.error c.in_ok-error.ensures.rate
-    c.in_err-check_skew.field-0.0 c.in_err-check_skew.ensures in
-    rw same (stopped 3 (figure_rules clock) c.in_err-check_skew.field-0.0
+    (stop.Refused c.in_err-check_skew.field-0.0) c.in_err-check_skew.ensures in
+    rw same (stopped 3 (figure_rules clock) (stop.Refused c.in_err-check_skew.field-0.0)
     (c.in_ok-skew.ensures.tests, (c.in_ok-error.ensures.tests, (c.in_ok-length.ensures.tests, refused))))
 
 pub returns-in_err-check_length-clause-tests : goal.returns-in_err-check_length-clause-tests
@@ -53,8 +54,8 @@ returns-in_err-check_length-clause-tests c =
     let clock = table_view c.args.clock.now in
     let kept = skew_kept clock _ _ _ c.in_ok-skew.ensures.read c.in_ok-error.ensures.error c.in_ok-error.ensures.rate c.in_ok-check_skew.ensures in
     let refused = length_refused clock _ _ _ c.in_ok-skew.ensures.read c.in_ok-error.ensures.error c.in_ok-error.ensures.rate _ c.in_ok-length.ensures.read
-    c.in_err-check_length.field-0.0 c.in_err-check_length.ensures in
-    rw same (stopped 4 (figure_rules clock) c.in_err-check_length.field-0.0
+    (stop.Refused c.in_err-check_length.field-0.0) c.in_err-check_length.ensures in
+    rw same (stopped 4 (figure_rules clock) (stop.Refused c.in_err-check_length.field-0.0)
     (c.in_ok-skew.ensures.tests, (c.in_ok-error.ensures.tests, (c.in_ok-length.ensures.tests, (kept, refused)))))
 
 -- none is broken

@@ -1,6 +1,7 @@
 use Rattle.std.proofs.Common.{◌≡◌, Some, Err, pos, to_z, w32, rules, arith}
 use Rattle.std.proofs.lemmas.Int.{ints}
 use Rattle.toml.specs.View.{table_view, view}
+use Rattle.sift_base.specs.declared.stop.Stop.TheVariants as stop
 use Rattle.sift_document.specs.laws.Order.{stopped}
 use Rattle.sift_sections.specs.Clock.{clock_rules}
 use Rattle.sift_sections.proofs.ClockTests.{clock_kept, clocks_read, drift_kept, drift_refused, errors_kept, errors_refused, figure_refused, start_kept, start_refused, units_refused}
@@ -11,14 +12,14 @@ use Rattle.sift_sections.proofs.clock.stated_plan.Goals as goal
 pub returns-in_err-clock-clause-tests : goal.returns-in_err-clock-clause-tests
 returns-in_err-clock-clause-tests c =
     let same : c.from_residual.result ≡ Err c.in_err-clock.field-0.0 = search rules in
-    rw same (stopped 0 (clock_rules c.args.units (Some (view c.args.value.now))) c.in_err-clock.field-0.0 c.in_err-clock.ensures.tests)
+    rw same (stopped 0 (clock_rules c.args.units (Some (view c.args.value.now))) (stop.Refused c.in_err-clock.field-0.0) c.in_err-clock.ensures.tests)
 
 -- a figure is refused
 pub returns-in_err-figures-clause-tests : goal.returns-in_err-figures-clause-tests
 returns-in_err-figures-clause-tests c =
     let same : c.from_residual-in_err-figures.result ≡ Err c.in_err-figures.field-0.0 = search rules in
     rw same (figure_refused c.args.units (view c.args.value.now) (table_view c.in_ok-clock.clock.now) c.in_ok-clock.ensures.read c.in_ok-clock.ensures.tests
-    c.in_err-figures.field-0.0 c.in_err-figures.ensures.tests)
+    (stop.Refused c.in_err-figures.field-0.0) c.in_err-figures.ensures.tests)
 
 -- the starts are
 pub returns-in_err-start-clause-tests : goal.returns-in_err-start-clause-tests
@@ -26,8 +27,8 @@ returns-in_err-start-clause-tests c =
     let same : c.from_residual-in_err-start.result ≡ Err c.in_err-start.field-0.0 = search rules in
     let clock = table_view c.in_ok-clock.clock.now in
     let figures = c.in_ok-figures.ensures in
-    rw same (units_refused c.args.units (view c.args.value.now) clock c.in_ok-clock.ensures.read c.in_ok-clock.ensures.tests figures.tests c.in_err-start.field-0.0
-    (start_refused c.args.units clock _ _ _ figures.skew figures.error figures.rate c.in_err-start.field-0.0 c.in_err-start.ensures.tests))
+    rw same (units_refused c.args.units (view c.args.value.now) clock c.in_ok-clock.ensures.read c.in_ok-clock.ensures.tests figures.tests (stop.Refused c.in_err-start.field-0.0)
+    (start_refused c.args.units clock _ _ _ figures.skew figures.error figures.rate (stop.Refused c.in_err-start.field-0.0) c.in_err-start.ensures.tests))
 
 -- the drifts are
 pub returns-in_err-drift-clause-tests : goal.returns-in_err-drift-clause-tests
@@ -35,8 +36,8 @@ returns-in_err-drift-clause-tests c =
     let same : c.from_residual-in_err-drift.result ≡ Err c.in_err-drift.field-0.0 = search rules in
     let clock = table_view c.in_ok-clock.clock.now in
     let figures = c.in_ok-figures.ensures in
-    rw same (units_refused c.args.units (view c.args.value.now) clock c.in_ok-clock.ensures.read c.in_ok-clock.ensures.tests figures.tests c.in_err-drift.field-0.0
-    (drift_refused c.args.units clock _ _ _ figures.skew figures.error figures.rate c.in_err-drift.field-0.0 c.in_ok-start.ensures.tests c.in_err-drift.ensures.tests))
+    rw same (units_refused c.args.units (view c.args.value.now) clock c.in_ok-clock.ensures.read c.in_ok-clock.ensures.tests figures.tests (stop.Refused c.in_err-drift.field-0.0)
+    (drift_refused c.args.units clock _ _ _ figures.skew figures.error figures.rate (stop.Refused c.in_err-drift.field-0.0) c.in_ok-start.ensures.tests c.in_err-drift.ensures.tests))
 
 -- the errors are
 pub returns-in_err-errors-clause-tests : goal.returns-in_err-errors-clause-tests
@@ -44,8 +45,8 @@ returns-in_err-errors-clause-tests c =
     let same : c.from_residual-in_err-errors.result ≡ Err c.in_err-errors.field-0.0 = search rules in
     let clock = table_view c.in_ok-clock.clock.now in
     let figures = c.in_ok-figures.ensures in
-    rw same (units_refused c.args.units (view c.args.value.now) clock c.in_ok-clock.ensures.read c.in_ok-clock.ensures.tests figures.tests c.in_err-errors.field-0.0
-    (errors_refused c.args.units clock _ _ _ figures.skew figures.error figures.rate c.in_err-errors.field-0.0
+    rw same (units_refused c.args.units (view c.args.value.now) clock c.in_ok-clock.ensures.read c.in_ok-clock.ensures.tests figures.tests (stop.Refused c.in_err-errors.field-0.0)
+    (errors_refused c.args.units clock _ _ _ figures.skew figures.error figures.rate (stop.Refused c.in_err-errors.field-0.0)
     c.in_ok-start.ensures.tests c.in_ok-drift.ensures.tests c.in_err-errors.ensures.tests))
 
 -- none is

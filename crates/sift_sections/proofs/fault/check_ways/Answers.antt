@@ -8,7 +8,7 @@ use Rattle.sift_sections.proofs.fault.check_ways.Goals as goal
 -- a fault doesn't fail in one way
 pub returns-then-not-has_one_way : goal.returns-then-not-has_one_way
 returns-then-not-has_one_way c =
-    rw c.broken.ensures
+    rw c.at.ensures
     (first_broken 28 _ _
     (holds_here (λ fault. table_view fault.now) c.args.tables.now (λ at fault. HasOneWay fault → ⊥) _ _
     c.loop-place-test.true c.index-tables-place.is

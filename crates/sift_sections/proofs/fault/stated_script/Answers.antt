@@ -1,5 +1,6 @@
 use Rattle.std.proofs.Common.{◌≡◌, ◌∙◌, Some, Err, map, rules, ap}
 use Rattle.toml.specs.View.{table_view, view}
+use Rattle.sift_base.specs.declared.stop.Stop.TheVariants as stop
 use Rattle.sift_script.specs.Script.{change_of}
 use Rattle.sift_document.specs.Document.{tables_in}
 use Rattle.sift_document.specs.laws.Order.{ok_from, stopped}
@@ -27,11 +28,11 @@ returns-in_err-heads-clause-tests c =
 -- a fault doesn't fail in one way
 pub returns-in_err-check_ways-clause-tests : goal.returns-in_err-check_ways-clause-tests
 returns-in_err-check_ways-clause-tests c =
-    let same : c.from_residual-in_err-check_ways.result ≡ Err c.in_err-check_ways.field-0.0 = search rules in
+    let same : c.from_residual-in_err-check_ways.result ≡ Err (stop.Refused c.in_err-check_ways.field-0.0) = search rules in
     let faults = map (λ fault. table_view fault.now) c.as_slice-tables.result.now in
     let are : faults ≡ tables_in (Some (view c.args.value.now)) = rw c.as_slice-tables.ensures.value c.in_ok-faults.ensures.tables in
-    rw same (faults_refused (view c.args.value.now) faults are c.in_ok-faults.ensures.tests c.in_err-check_ways.field-0.0
-    (stopped 1 (each_fault_rules faults) c.in_err-check_ways.field-0.0 (c.in_ok-heads.ensures.tests, c.in_err-check_ways.ensures)))
+    rw same (faults_refused (view c.args.value.now) faults are c.in_ok-faults.ensures.tests (stop.Refused c.in_err-check_ways.field-0.0)
+    (stopped 1 (each_fault_rules faults) (stop.Refused c.in_err-check_ways.field-0.0) (c.in_ok-heads.ensures.tests, c.in_err-check_ways.ensures)))
 
 -- an item states no change
 pub returns-in_err-said-clause-tests : goal.returns-in_err-said-clause-tests
