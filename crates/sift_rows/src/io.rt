@@ -1,6 +1,8 @@
 //! Whole reads and writes over sources and sinks in memory, whose calls their clauses tell exactly.
 
 use sift_io::*;
+use std::io;
+use std::io::Write;
 use std::test::Fail;
 
 #[test]
@@ -55,4 +57,55 @@ fn a_whole_write_to_a_sure_sink_is_whole(rt: HostRuntime) {
     let mut sink = SureOut::new(3);
     let done = write_all(&mut sink, b"abcdefgh");
     assert_eq!(rt; done, Ok(()));
+}
+
+/// A writer of std that a signal interrupts so often before it takes a piece, whole.
+#[derive(Drop)]
+struct Interrupted {
+    bytes: Vec<u8>,
+    /// How often each piece is interrupted.
+    times: u32,
+    /// How often this one was.
+    so_far: u32,
+}
+
+impl Write for Interrupted {
+    fn write(&mut self, piece: &[u8]) -> io::Result<usize> {
+        if self.so_far < self.times {
+            self.so_far += 1;
+            return Err(io::Error::from(io::ErrorKind::Interrupted));
+        }
+        self.so_far = 0;
+        self.bytes.extend_from_slice(piece)?;
+        Ok(piece.len())
+    }
+
+    fn flush(&mut self) -> io::Result<()> {
+        Ok(())
+    }
+}
+
+#[test]
+fn a_long_piece_is_written_unless_each_of_a_thousand_calls_is_interrupted(
+    rt: HostRuntime,
+) -> Result<(), Fail> {
+    let alloc = rt.alloc();
+    let cases = [
+        (0, Ok(()), 100_000),
+        (1, Ok(()), 100_000),
+        (999, Ok(()), 100_000),
+        (1_000, Err(WriteStop::Failed), 0),
+    ];
+    let bytes = vec![in alloc; 7; 100_000]?;
+    for (times, want, written) in cases {
+        let mut sink = StdOut::new(Interrupted {
+            bytes: Vec::new(alloc),
+            times,
+            so_far: 0,
+        });
+        let done = write_all(&mut sink, &bytes);
+        assert_eq!(rt; done, want, "{times} interruptions");
+        assert_eq!(rt; sink.output.bytes.len(), written, "{times} interruptions");
+    }
+    Ok(())
 }
