@@ -1,4 +1,4 @@
-use Rattle.std.proofs.Common.{◌≡◌, Err, sym, ap, ◌∙◌, subst, arith}
+use Rattle.std.proofs.Common.{◌≡◌, Err, sym, ap, subst, arith}
 use Rattle.sift_code.specs.Refusal.{Program}
 use Rattle.sift_lang.specs.Tree.{block_of, tree_of}
 use Rattle.sift_compile.specs.declared.compiler.CompileStop.TheVariants.{CodeTooLong}
