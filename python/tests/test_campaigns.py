@@ -402,9 +402,9 @@ def test_a_report_read_at_a_glance_tells_the_same(path):
         assert (one.votes, one.outputs, one.configurations) == (other.votes, other.outputs, other.configurations)
     for unit in range(8):
         assert all(quick.first_catch(unit, begin) == whole.first_catch(unit, begin) for begin in range(len(whole.frames)))
-    # Held against the words of each unit in turn, some of which are other ones than those that are voted.
+    # Held against the words of each unit in turn, some of which are other ones than those of the others.
     for unit in range(whole.units):
-        ideal = [frame.outputs[unit] or () for frame in whole.frames]
+        ideal = [frame.outputs[unit] or next(iter(frame.votes), ()) for frame in whole.frames]
         schedule = Schedule({"units": whole.units, **dict.fromkeys(("skew", "start")), "sensors": [], "tasks": [], "executors": {}}, ideal)
         assert quick.other_votes(schedule) == whole.other_votes(schedule)
 
