@@ -406,7 +406,7 @@ def test_a_report_read_at_a_glance_tells_the_same(path):
     for unit in range(whole.units):
         ideal = [frame.outputs[unit] or next(iter(frame.votes), ()) for frame in whole.frames]
         schedule = Schedule({"units": whole.units, **dict.fromkeys(("skew", "start")), "sensors": [], "tasks": [], "executors": {}}, ideal)
-        assert quick.other_places(schedule) == whole.other_places(schedule)
+        assert quick.other_votes(schedule) == whole.other_votes(schedule)
 
 
 def test_no_faults_have_no_text():

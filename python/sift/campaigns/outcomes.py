@@ -1,6 +1,8 @@
 """What came of a run, counted in its report."""
 from collections import namedtuple
-from itertools import islice
+from functools import lru_cache
+from itertools import compress, count, islice
+from operator import ne
 
 
 # What a run shows of one of its faults: whether its unit was due to say the slot in some configuration that it was in; the
@@ -47,13 +49,20 @@ def shown_of(flight, unit, begin):
     return *flight.first_catch(unit, begin), None if without is None else told.index(without)
 
 
+@lru_cache(maxsize=16384)
+def wrong_in(votes, ideal, compared):
+    """The places, of those that are compared, of the output words that some unit votes other than the ideal machine has them."""
+    wrong = {place for words in votes for place in compress(count(), map(ne, words, ideal))}
+    return tuple([place for place in compared if place in wrong])
+
+
 def wrong_words(flight, schedule):
     """Of each frame in which output words are wrong their places."""
-    others = flight.other_places(schedule)
-    if not others:
+    votes = flight.other_votes(schedule)
+    if not votes:
         return {}
-    compared = list(islice(schedule.compared(flight), max(others) + 1))
-    wrong = {number: tuple([place for place in compared[number] if place in places]) for number, places in others.items()}
+    compared = list(islice(schedule.compared(flight), max(votes) + 1))
+    wrong = {number: wrong_in(told, schedule.ideal[number], compared[number]) for number, told in votes.items()}
     return {number: places for number, places in wrong.items() if places}
 
 

@@ -3,7 +3,7 @@ few searches of each frame. All is told as by sift.reports.reading, which reads 
 import re
 from functools import lru_cache
 
-from sift.reports.reading import Flight, blanked_stretch_of, catches_of, places_but, read_report, units_of
+from sift.reports.reading import Flight, blanked_stretch_of, catches_of, read_report, units_of, words_of
 
 SHORT = 32 * 1024  # bytes of a report that is kept as a whole
 CATCHING = re.compile(r" u=([0-7]) cfg=.* bad=([^-].*)")  # the line of a unit that caught some
@@ -41,9 +41,9 @@ class QuickFlight(Flight):
         units = {text: units_of(text) for text in set(told)}
         return [*map(units.get, told), self.last]
 
-    def other_places(self, schedule):
+    def other_votes(self, schedule):
         parts = zip(self.parts, schedule.due_texts(), self.working)
-        return {number: other_places_in(part, due) for number, (part, due, working) in enumerate(parts) if part.count(due) != working}
+        return {number: votes_in(part) for number, (part, due, working) in enumerate(parts) if part.count(due) != working}
 
     def first_catch(self, unit, begin):
         for number in self.catching():
@@ -66,11 +66,16 @@ class QuickFlight(Flight):
         return self.memory[number]
 
 
-def other_places_in(part, due):
-    """Of the lines of a frame the places at which some unit has another word in its `out` than is due."""
-    _, *lists = part.split(" out=")
-    words = due[5:-5].split(",")
-    return places_but([out[: out.index(" ")].split(",") for out in lists if not out.startswith(due[5:])], words)
+def votes_in(part):
+    """The words that are voted in the lines of a frame."""
+    _, *outs = part.split(" out=")
+    return votes_of(frozenset([out[: out.index(" ")] for out in outs]))
+
+
+@lru_cache(maxsize=16384)
+def votes_of(outs):
+    """The same of what units say that work."""
+    return frozenset(map(words_of, outs))
 
 
 @lru_cache(maxsize=4096)

@@ -2,7 +2,6 @@
 from __future__ import annotations
 
 import itertools
-import operator
 import re
 from functools import lru_cache
 
@@ -109,20 +108,15 @@ class Flight:
         """Whether the last frame has it."""
         return self.frames[-1].margin
 
-    def other_places(self, schedule: Any) -> Dict[int, Set[int]]:
-        """Of the frames in which some unit votes other words than a schedule has due the places of these words, by the frame's number."""
-        votes = zip([frame.votes for frame in self.frames], schedule.due, schedule.ideal)
-        return {number: places_but(told, ideal) for number, (told, due, ideal) in enumerate(votes) if told != due and told}
+    def other_votes(self, schedule: Any) -> Dict[int, FrozenSet[Any]]:
+        """Of the frames in which some unit votes other words than a schedule has due the words of each, by the frame's number."""
+        votes = [frame.votes for frame in self.frames]
+        return {number: told for number, (told, due) in enumerate(zip(votes, schedule.due)) if told != due and told}
 
     def first_catch(self, unit: int, begin: int) -> Tuple[Optional[int], Tuple[int, ...]]:
         """The first frame from one on in which a unit was caught, or None, and those who did so."""
         caught = next((frame for frame in range(begin, len(self.frames)) if unit in self.frames[frame].caught), None)
         return caught, tuple(self.frames[caught].caught_by(unit)) if caught is not None else ()
-
-
-def places_but(lists, due):
-    """The places at which some of these lists of words have another one than is due."""
-    return {place for words in lists for place in itertools.compress(itertools.count(), map(operator.ne, words, due))}
 
 
 @lru_cache(maxsize=256)
