@@ -11,11 +11,18 @@ use std::alloc::Global;
 pub struct CheckJob;
 
 impl<M: Drop, W: Work> MissionJob<M, W> for CheckJob {
+    ghost use Rattle.std.specs.Prelude.{IfOk, IsOk};
+    ghost use Rattle.sift_reply.specs.Begun.{ComesTo};
+    ghost use Rattle.sift_mission.specs.Parts.{data_of};
     ghost use Rattle.sift_jobs.specs.Unflown.{CheckGives};
 
     ghost gives_for = { λ means. CheckGives };
 
-    fn begin_for(self, _alloc: Global, _means: M, _mission: Mission) -> Result<Begun<W>, NoMemory> {
+    fn begin_for(self, _alloc: Global, _means: M, mission: Mission) -> Result<Begun<W>, NoMemory>
+        ensures gives { IfOk result (ComesTo W.gives (CheckGives self (data_of mission))) }
+        // Once the mission is read no memory is asked for, so none is wanting.
+        ensures sure { IsOk result }
+    {
         Ok(Begun::Replied(Reply::fixed(0, "ok\n")))
     }
 }
