@@ -74,15 +74,11 @@ impl BusesJob {
     pub fn buses(self, alloc: Global, mission: &Mission) -> Result<Vec<Constant>, NoMemory>
         ensures { IfOk result (λ buses. buses.items ≡ replicate mission.now.layout.units (bus_of self)) }
     {
-        let units = usize::from(mission.parts().layout.units);
-        let mut buses = Vec::with_capacity(alloc, units)?;
-        for _ in 0..units {
-            buses.push(Constant {
-                from: self.from,
-                value: self.value,
-            })?;
-        }
-        Ok(buses)
+        let bus = Constant {
+            from: self.from,
+            value: self.value,
+        };
+        one_each(alloc, mission, &bus)
     }
 
     /// The text that tells of a flight over three buses: its report, and what the logs of the faulty one tell.
@@ -107,6 +103,21 @@ impl BusesJob {
         push_words(&mut text, self.bus, frames, logs)?;
         Ok(text)
     }
+}
+
+/// Buses that carry as this one does, one for each unit of a mission.
+fn one_each(alloc: Global, mission: &Mission, bus: &Constant) -> Result<Vec<Constant>, NoMemory>
+    ensures { IfOk result (λ buses. buses.items ≡ replicate mission.now.layout.units bus.now) }
+{
+    let units = usize::from(mission.parts().layout.units);
+    let mut buses = Vec::with_capacity(alloc, units)?;
+    for _ in 0..units {
+        buses.push(Constant {
+            from: bus.from,
+            value: bus.value,
+        })?;
+    }
+    Ok(buses)
 }
 
 /// The word that is given, where one is. There is nothing where a number is given that is no word's.
