@@ -1,16 +1,13 @@
 -- Units that have come home have flown.
-use Rattle.std.proofs.Common.{◌≡◌, ℕ, ◌-◌, ◌≤◌, List, [], slice_index_or, Option, Some, None, refl, sym, ap, ◌∙◌, subst, arith}
+use Rattle.std.proofs.Common.{◌≡◌, ℕ, ◌-◌, ◌≤◌, List, [], Option, Some, None, refl, sym, ap, ◌∙◌, subst, arith}
 use Rattle.std.proofs.lemmas.List.{length-map}
 use Rattle.sift_buffer.specs.Conduct.{Conduct, Stray}
 use Rattle.sift_buffer.specs.Views.{View}
 use Rattle.sift_rogue.specs.Storms.{Call, StormsBy, sifted}
 use Rattle.sift_script.specs.declared.script.StormEntry.{StormEntry}
-use Rattle.sift_mission.specs.Data.{MissionData, FlownMission}
+use Rattle.sift_mission.specs.Data.{MissionData}
 use Rattle.sift_mission.specs.Flown.{flown}
 use Rattle.sift_conduct.specs.Conduct.{account_of}
-use Rattle.sift_conduct.specs.Acts.{BoardKeeps}
-use Rattle.sift_conduct.specs.Frames.{frames_before}
-use Rattle.sift_unit.specs.Boards.{desk_of}
 use Rattle.sift_unit.specs.Down.{DownLaw, HasFlownAll}
 use Rattle.sift_seat.specs.Storms.{storm_at}
 use Rattle.sift_seat.specs.Seats.{Place, end_of, storm_of, IsStraying, IsManned, IsDone, Came}

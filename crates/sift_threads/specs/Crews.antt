@@ -15,7 +15,7 @@ use Rattle.sift_ether.specs.declared.seat.Token.{Token}
 use Rattle.sift_seat.specs.Seats.{AreNewSeats}
 use Rattle.sift_seat.specs.declared.seat.Seat.{Seat}
 use Rattle.sift_threads.specs.Flown.{HaveFlown}
-use Rattle.sift_threads.specs.Manned.{IsDriven, IsHomeAt, Comes}
+use Rattle.sift_threads.specs.Manned.{IsHomeAt, Comes}
 use Rattle.sift_threads.specs.declared.flight.Flown.{Flown}
 use Rattle.sift_threads.specs.declared.seating.Manned.{Manned}
 
