@@ -4,12 +4,10 @@
 
 mod fleet;
 mod flying;
-mod law;
-mod resting;
+mod rogues;
 mod top;
 
 pub use fleet::Fleet;
 pub use flying::{tell_alone, tell_over_buses};
-pub use law::{storms_give_what_they_draw, strays_are_given};
-pub use resting::storms;
+pub use rogues::{storms, storms_give_what_they_draw, strays_are_given};
 pub use top::{sift_alone, sift_by};

@@ -2,9 +2,7 @@
 //! on threads. The top call's contract says what each exit status means.
 #![tactic(auto)]
 
-mod exit;
 mod flying;
 mod top;
 
-pub use exit::exit_code;
-pub use top::sift;
+pub use top::{exit_code, sift};

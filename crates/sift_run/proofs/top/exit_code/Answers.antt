@@ -4,7 +4,7 @@ use Rattle.sift_reply.specs.Reply.{Input, Output}
 use Rattle.sift_reply.specs.Promise.{AskForNoInput, IsAnswered, IsCertain}
 use Rattle.sift_commands.specs.Command.{commands}
 use Rattle.sift_commands.specs.Headline.{IsCaughtWritten, IsHeadlineWritten}
-use Rattle.sift_run.proofs.exit.exit_code.Goals as goal
+use Rattle.sift_run.proofs.top.exit_code.Goals as goal
 
 -- the program ends with the status that was answered
 pub returns-in-Ok-Ok-clause-answered : goal.returns-in-Ok-Ok-clause-answered

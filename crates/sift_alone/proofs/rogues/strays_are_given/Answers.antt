@@ -3,7 +3,7 @@ use Rattle.sift_rogue.specs.Rogues.{AllowsDrawn}
 use Rattle.sift_alone.specs.Given.{AreGiven, resting_storms}
 use Rattle.sift_alone.specs.Strays.{drawn_strays}
 use Rattle.sift_alone.specs.laws.Strays.{calm_missions_get_none, flown_over, storms_give_draws}
-use Rattle.sift_alone.proofs.law.strays_are_given.Goals as goal
+use Rattle.sift_alone.proofs.rogues.strays_are_given.Goals as goal
 
 pub returns-clause-drawn : goal.returns-clause-drawn
 returns-clause-drawn g c = storms_give_draws c.drawn_storms_are_the_draws.ensures

@@ -1,6 +1,6 @@
 use Rattle.sift_rogue.specs.Storms.{sifted}
 use Rattle.sift_rogue.specs.declared.storm.Storm.{Storm}
-use Rattle.sift_alone.proofs.law.storms_give_what_they_draw.Goals as goal
+use Rattle.sift_alone.proofs.rogues.storms_give_what_they_draw.Goals as goal
 
 -- what stands past the last rogue
 abbrev unbegun : Storm
