@@ -19,7 +19,7 @@ use Rattle.sift_bus_port.specs.Links.{CarriesAll, Link, first_link}
 use Rattle.sift_bus_port.specs.Logs.{Log, blank_log, count_in, count_places, has_entry, log_of}
 use Rattle.sift_bus_port.specs.Telling.{IsCarried, LogsTellWhatWasHeard, TellsCarried}
 use Rattle.sift_bus_port.specs.Telling as telling
-use Rattle.sift_bus_port.specs.declared.constant.Constant.{Constant}
+use Rattle.sift_bus_port.specs.declared.bus.Constant.{Constant}
 use Rattle.sift_bus_port.specs.declared.log.BusLog.{BusLog}
 use Rattle.sift_bus_port.specs.laws.Counting.{same_places, entry_there}
 use Rattle.sift_bus_jobs.specs.Numbers.{BusNumbers, bus_of}

@@ -1,7 +1,7 @@
 -- What options ask of `buses`: which bus is faulty, from which frame on, and what it carries then.
 use Rattle.std.specs.Prelude.{ℕ, ◌<◌, ◌≤◌, Option, Some, None, IfSome, option_map}
 use Rattle.sift_bus_port.specs.Buses.{bus_count}
-use Rattle.sift_bus_port.specs.declared.constant.Constant.{Constant}
+use Rattle.sift_bus_port.specs.declared.bus.Constant.{Constant}
 use Rattle.sift_options.specs.Options.{within}
 use Rattle.sift_options.specs.declared.setting.Options.{Options}
 

@@ -2,7 +2,7 @@
 use Rattle.std.specs.Prelude.{◌≡◌, ℕ, ◌<◌, Bool, nat_eq, nat_lt, if◌then◌else◌, List, [], ◌∷◌, slice_set, Option}
 use Rattle.std.specs.Option.{option_eq}
 use Rattle.sift_vote.specs.Majority.{majority_of}
-use Rattle.sift_bus_port.specs.declared.constant.Constant.{Constant}
+use Rattle.sift_bus_port.specs.declared.bus.Constant.{Constant}
 
 -- what was carried: in which frame, from which unit, to which, in which slot; the word that the bus was given, and the one that it gave
 pub record Carriage : Type 0 where

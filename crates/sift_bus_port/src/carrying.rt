@@ -1,6 +1,6 @@
 //! A port with three buses before it as a port.
-ghost use Rattle.std.specs.Prelude.{◌≡◌, ◌<◌};
-ghost use Rattle.sift_bus_port.specs.Buses.{bus_count};
+ghost use Rattle.std.specs.Prelude.{◌≡◌, ◌<◌, ◌==◌, ◌&&◌, ℕ, false, map, not, slice_index_or};
+ghost use Rattle.sift_bus_port.specs.Buses.{bus_count, OneBusMayLie, is_same, three_of};
 ghost use Rattle.sift_bus_port.specs.Following.{itself, further};
 ghost use Rattle.sift_bus_port.specs.Links.{GoesOn, HasHeardNothing, IsBlank, first_link, link_of};
 ghost use Rattle.sift_bus_port.specs.Logs.{log_of};
@@ -8,9 +8,9 @@ ghost use Rattle.sift_bus_port.specs.Logs.{log_of};
 use crate::bus::Bus;
 use crate::log::BusLog;
 use crate::port::BusPort;
-use crate::three::vote_of_three;
 use sift_base::{UnitId, Word};
 use sift_buffer::{Look, Port};
+use sift_vote::{majority, majority_is_found};
 
 impl<T: Port, B: Bus> BusPort<T, B> {
     /// A port of a unit that has heard nothing yet, with three buses before it, of which this one
@@ -109,4 +109,46 @@ impl<T: Port, B: Bus> Port for BusPort<T, B> {
     fn stray(&mut self, to: UnitId, slot: usize, cell: u64) {
         self.port.stray(to, slot, cell);
     }
+}
+
+/// Whichever of three buses is faulty, and whatever it carries in place of a word or of absence,
+/// the majority of the three is the word, or absence.
+pub fn one_bus_may_lie()
+    ensures { OneBusMayLie }
+{
+    majority_is_found();
+}
+
+/// What a unit takes of a word that came over three buses: the majority, and which buses gave
+/// another word than this.
+pub(crate) fn vote_of_three(
+    word: Option<Word>,
+    faulty: u8,
+    carried: Option<Word>,
+) -> (Option<Word>, [bool; 3])
+    requires { faulty < bus_count }
+    ensures majority { result.0 ≡ word }
+    ensures wrong { (bus : ℕ) → slice_index_or result.1 bus false ≡ (bus == faulty && not (is_same carried word)) }
+{
+    let buses = three_of(word, faulty, carried);
+    let taken = majority(&buses);
+    let wrong = wrong_of(&buses, &taken);
+    (taken, wrong)
+}
+
+/// What three buses give of a word: the faulty one what it carried, and the two true ones the word.
+fn three_of(word: Option<Word>, faulty: u8, carried: Option<Word>) -> [Option<Word>; 3]
+    requires { faulty < bus_count }
+    ensures { result ≡ three_of word faulty carried }
+{
+    let mut buses = [word; 3];
+    buses[usize::from(faulty)] = carried;
+    buses
+}
+
+/// Which of three buses give another word than this.
+fn wrong_of(buses: &[Option<Word>; 3], word: &Option<Word>) -> [bool; 3]
+    ensures { result ≡ map (λ given. not (is_same given word.now)) buses.now }
+{
+    [buses[0] != *word, buses[1] != *word, buses[2] != *word]
 }

@@ -4,16 +4,12 @@
 
 mod bus;
 mod carrying;
-mod constant;
-mod laws;
 mod log;
 mod noting;
 mod port;
-mod three;
 
-pub use bus::Bus;
-pub use constant::Constant;
-pub use laws::logs_tell_what_was_heard;
+pub use bus::{Bus, Constant};
+pub use carrying::one_bus_may_lie;
 pub use log::BusLog;
+pub use noting::logs_tell_what_was_heard;
 pub use port::BusPort;
-pub use three::one_bus_may_lie;

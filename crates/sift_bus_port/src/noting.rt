@@ -5,7 +5,9 @@ ghost use Rattle.sift_base.specs.Units.{unit_limit};
 ghost use Rattle.sift_buffer.specs.Tables.{IsEntry};
 ghost use Rattle.sift_bus_port.specs.Buses.{bus_count};
 ghost use Rattle.sift_bus_port.specs.Logs.{blank_log, count_below, count_in, has_entry, log_of, log_with};
+ghost use Rattle.sift_bus_port.specs.Telling.{LogsTellWhatWasHeard};
 
+use crate::bus::Bus;
 use crate::log::BusLog;
 use sift_base::{Layout, NoMemory, UnitId, Word};
 use sift_buffer::Grid;
@@ -104,3 +106,10 @@ impl BusLog {
             && from.get() < self.grid.layout.units
     }
 }
+
+/// A log counts for the faulty bus the words that its unit heard and that this bus carried as
+/// others, absence included, and none for a true bus; and it has what the faulty bus carried of
+/// each word. It is so for every body of a bus.
+pub fn logs_tell_what_was_heard<B: Bus>()
+    ensures { LogsTellWhatWasHeard B.allows }
+{}

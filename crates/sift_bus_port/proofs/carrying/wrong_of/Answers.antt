@@ -1,6 +1,6 @@
 use Rattle.std.proofs.Common.{arith}
 use Rattle.std.proofs.lemmas.Grind.{common_steps}
-use Rattle.sift_bus_port.proofs.three.wrong_of.Goals as goal
+use Rattle.sift_bus_port.proofs.carrying.wrong_of.Goals as goal
 
 -- each bus is compared with the word
 pub returns : goal.returns

@@ -1,5 +1,5 @@
 use Rattle.sift_bus_port.proofs.Outvoting.{majority_is, wrong_is}
-use Rattle.sift_bus_port.proofs.three.vote_of_three.Goals as goal
+use Rattle.sift_bus_port.proofs.carrying.vote_of_three.Goals as goal
 
 pub returns-clause-majority : goal.returns-clause-majority
 returns-clause-majority c = majority_is c.args.word c.args.carried c.majority-taken.result c.args.faulty c.requires
