@@ -32,7 +32,8 @@ module _ (words : List (List ℕ)) (before after : Inflow) (old new : RoomOut) (
   -- neither side failed, and memory was there: what was given is told
   pub told : (input : List ℕ) → before.left ≡ Some input → before.faults ≡ 0 → after.faults ≡ 0 → bytes_of old ≡ [] → status ≢ sink_fault_status → status ≢ no_memory_status
       → (storms : List Storm) → storms ≡ resting_storms → IsCertain (commands (flying_with AllowsDrawn storms)) words came went status → IsTold words input status (bytes_of new)
-  told input tells calm sure empty nine ten storms rest certain = by (subst (λ (them : List Storm). IsCertain (commands (flying_with AllowsDrawn them)) words came went status) rest certain input tells)
+  told input tells calm sure empty nine ten storms rest certain =
+      by (subst (λ (them : List Storm). IsCertain (commands (flying_with AllowsDrawn them)) words came went status) rest certain input tells)
     where
       by : ((reply : Reply) × IsOwed program_commands words (λ duty. IsOwedTo duty input) reply × IsGiven went reply status)
           ⊎ (IsGiven went read_fault status × Rose before.faults after.faults)
