@@ -13,7 +13,7 @@ use sift_base::NoMemory;
 use sift_conduct::Account;
 use sift_ether::{Ether, Token};
 use sift_flight::{Flight, flights_that_come_home_are_round};
-use sift_mission::{Mission, a_mission_fits};
+use sift_mission::{Mission, a_mission_fits, missions_may_be_lent};
 use sift_rogue::Rogue;
 use sift_seat::Seat;
 use sift_workers::{Probe, fly_all};
@@ -69,6 +69,7 @@ pub fn fly_seats<R: Rogue + Send, B: Probe + Sync, H: Threads + Wait + Sync>(
     requires rogues { length rogues.items ≡ unit_limit }
     ensures { IfOk result (λ flown. HaveFlown R.allows (data_of mission.now) ether.now rogues.items flown) }
 {
+    missions_may_be_lent();
     let units = usize::from(mission.parts().units);
     let empty = Flown::with_room(alloc, units, rogues.len())?;
     let room = Vec::with_capacity(alloc, units)?;

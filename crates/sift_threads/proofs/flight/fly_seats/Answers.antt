@@ -17,7 +17,7 @@ pub fly_all-requires-send-P : goal.fly_all-requires-send-P
 fly_all-requires-send-P g c κs within =
     let rogue = c.type_bounds.send-R in
     let port = EtherSeat.the_row (record { mir = named 6; lft = κs.1.1.1.1.1.1.0 }) in
-    let manned = manned_send (record { mir = named 5; lft = κs.1.1.1.1.1.0 }) port (param 0 g.row.R)
+    let manned = manned_send c.missions_may_be_lent.ensures (record { mir = named 5; lft = κs.1.1.1.1.1.0 }) port (param 0 g.row.R)
     (search (sendable, crosses, ether_seat.the_send) depth 40 fits 20000) (search (sendable, rogue) depth 40 fits 20000) in
     let row = Manned.the_row (record { mir = named 5; lft = κs.1.1.1.1.1.0 }) port (param 0 g.row.R) in
     record { owned = manned.owned; leaving = λ k. Quiet-if (k (of_param 0)) (row.exit no) unseen (manned.leaving no) (λ x w. tt {0}) }
