@@ -31,7 +31,7 @@ const DUE: u16 = 16;
 
 /// The mission that counts.
 fn counting(alloc: Global) -> Result<Mission, Fail>
-    ensures layout { IfOk result (λ mission. mission.layout ≡ record { units = 4; sensors = 0; words = 1 }) }
+    ensures layout { IfOk result (λ mission. mission.layout ≡ LAYOUT) }
     ensures frames { IfOk result (λ mission. mission.frames ≡ 1) }
 {
     let mission = stated(alloc, COUNT)?;
@@ -44,7 +44,7 @@ fn counting(alloc: Global) -> Result<Mission, Fail>
 
 /// The unit said its word to each other unit, and heard theirs.
 fn expect_words(rt: &impl Abort, journal: &Journal, unit: u8)
-    requires { IsJournalOf journal.now (record { units = 4; sensors = 0; words = 1 }) unit 1 }
+    requires { IsJournalOf journal.now LAYOUT unit 1 }
 {
     let due = Some(Word::of(DUE));
     for number in 0..LAYOUT.units {
@@ -66,7 +66,7 @@ fn expect_landing<H: Threads + Wait + Abort + Sync>(
     workers: u8,
 ) -> Result<(), Fail>
     requires workers { (1 ≤ workers) × (workers ≤ unit_limit) }
-    requires layout { mission.now.layout ≡ record { units = 4; sensors = 0; words = 1 } }
+    requires layout { mission.now.layout ≡ LAYOUT }
     requires frames { mission.now.frames ≡ 1 }
 {
     let parts = mission.parts();
