@@ -11,6 +11,8 @@ mod faults;
 #[cfg(test)]
 mod heard;
 #[cfg(test)]
+mod landing;
+#[cfg(test)]
 mod machines;
 #[cfg(test)]
 mod missions;
