@@ -14,8 +14,7 @@ _sift() {
     '<') compopt -o filenames 2>/dev/null; mapfile -t COMPREPLY < <(compgen -f -- "$word"); return ;;
     --workers) mapfile -t COMPREPLY < <(compgen -W '1 2 3 4 5 6 7 8' -- "$word"); return ;;
     --report) mapfile -t COMPREPLY < <(compgen -W '1 2' -- "$word"); return ;;
-    --order | --number | --n | --m | --skew | --error | --rate | --rounds | --copies | --subframes | \
-      --bus | --from | --value) return ;;
+    --order | --number | --copies | --subframes | --bus | --from | --value | --n | --m | --skew | --error | --rate | --rounds) return ;;
   esac
 
   if [ "$place" -eq 1 ]; then

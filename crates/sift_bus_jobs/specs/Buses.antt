@@ -1,15 +1,15 @@
 -- The command `buses`: the report of a flight over three buses, and how many words the faulty one got wrong.
-use Rattle.std.specs.Prelude.{codes, ℕ, ◌≡◌, ◌⊎◌, List, ◌∷◌, ◌++◌, true, Some}
+use Rattle.std.specs.Prelude.{codes, ℕ, ◌≡◌, ◌⊎◌, List, [], ◌∷◌, ◌++◌, false, true, Some}
 use Rattle.sift_base.specs.Units.{has}
 use Rattle.sift_flight.specs.Flight.{Flight, Strays, HasNoStorms, IsRound}
-use Rattle.sift_load.specs.Loads.{no_mission_statuses}
 use Rattle.sift_mission.specs.Data.{MissionData, FlownMission}
 use Rattle.sift_mission.specs.Flown.{flown}
 use Rattle.sift_reply.specs.Reply.{Reply, done, done_status}
+use Rattle.sift_row.specs.Row.{Mission, Row}
 use Rattle.sift_line.specs.Line.{text_of_lines}
 use Rattle.sift_report.specs.Sheet.{sheet_of}
 use Rattle.sift_line.specs.declared.line.Version.TheVariants.{Two}
-use Rattle.sift_bus_jobs.specs.Numbers.{BusNumbers}
+use Rattle.sift_bus_jobs.specs.Numbers.{BusNumbers, bus_flag, buses_job_of, from_flag, value_flag}
 use Rattle.sift_bus_jobs.specs.Text.{words_text}
 use Rattle.sift_bus_jobs.specs.Wrong.{wrong_in}
 
@@ -53,6 +53,13 @@ BusesGives job mission came =
     ((text : List ℕ) × TellsBuses job mission text × (came ≡ done text))
     ⊎ (HasStorm (flown mission) × (came ≡ storm))
 
--- the statuses of its replies
-abbrev pub buses_statuses : List ℕ
-buses_statuses = done_status ∷ storm_status ∷ no_mission_statuses
+-- its row
+abbrev pub buses_row : Row BusNumbers
+buses_row = record {
+  word = codes "buses";
+  flags = bus_flag ∷ from_flag ∷ value_flag ∷ [];
+  job_of = buses_job_of;
+  does = λ numbers. Mission false (BusesGives numbers);
+  statuses = done_status ∷ storm_status ∷ [];
+  by_one = λ numbers. numbers;
+}

@@ -1,9 +1,8 @@
 -- What options ask of `buses`: which bus is faulty, from which frame on, and what it carries then.
-use Rattle.std.specs.Prelude.{ℕ, ◌<◌, ◌≤◌, Option, Some, None, IfSome, option_map}
+use Rattle.std.specs.Prelude.{codes, ℕ, ◌<◌, ◌≤◌, Option, Some, None, IfSome, option_map}
 use Rattle.sift_bus_port.specs.Buses.{bus_count}
 use Rattle.sift_bus_port.specs.declared.bus.Constant.{Constant}
-use Rattle.sift_options.specs.Options.{within}
-use Rattle.sift_options.specs.declared.setting.Options.{Options}
+use Rattle.sift_options.specs.Options.{Allowed, Given, any_number, within}
 
 -- a faulty bus, the frame from which on it is faulty, and the word that it carries then in place of every other, or absence
 pub record BusNumbers : Type 0 where
@@ -43,6 +42,17 @@ abbrev pub buses_with : (bus from : Option ℕ) → (value : Option (Option ℕ)
 buses_with (Some bus) (Some from) (Some value) = Some (record { bus = bus; from = from; value = value })
 buses_with bus from value = None
 
+-- the options
+abbrev pub bus_flag : Allowed
+bus_flag = any_number (codes "--bus")
+
+abbrev pub from_flag : Allowed
+from_flag = any_number (codes "--from")
+
+abbrev pub value_flag : Allowed
+value_flag = any_number (codes "--value")
+
 -- what options ask for: the bus and the frame have to be given, and a word may be, each in its range
-abbrev pub buses_job_of : Options → Option BusNumbers
-buses_job_of options = buses_with (within 0 last_bus options.bus) (within 0 last_frame options.from) (word_given options.value)
+abbrev pub buses_job_of : Given → Option BusNumbers
+buses_job_of options = buses_with (within 0 last_bus (options bus_flag.name)) (within 0 last_frame (options from_flag.name))
+    (word_given (options value_flag.name))

@@ -1,27 +1,24 @@
 //! The command `buses`.
 
-ghost use Rattle.std.specs.Prelude.{◌≡◌, ◌<◌, IfOk, false, replicate, string_bytes, true};
-ghost use Rattle.sift_bus_jobs.specs.Buses.{BusesGives, FliesCalm, HasStorm, TellsBuses, buses_statuses};
-ghost use Rattle.sift_bus_jobs.specs.Numbers.{BusNumbers, bus_of, buses_job_of, word_given};
+ghost use Rattle.std.specs.Prelude.{ℕ, List, ◌≡◌, ◌<◌, IfOk, false, replicate, string_bytes, true};
+ghost use Rattle.sift_bus_jobs.specs.Buses.{BusesGives, FliesCalm, HasStorm, TellsBuses};
+ghost use Rattle.sift_bus_jobs.specs.Numbers.{bus_of, word_given};
 ghost use Rattle.sift_bus_port.specs.Buses.{AllowsConstant, bus_count};
 ghost use Rattle.sift_bus_port.specs.Flown.{AreLogsOf};
 ghost use Rattle.sift_flight.specs.Flight.{HasNoStorms};
 ghost use Rattle.sift_flight.specs.Told.{IsLogged, told};
-ghost use Rattle.sift_load.specs.Loads.{mission_duty};
 ghost use Rattle.sift_mission.specs.Parts.{data_of, flown_of};
-ghost use Rattle.sift_reply.specs.Duty.{GivesOne, HasOwnStatuses};
 
 use crate::counts::push_words;
 use sift_base::{NoMemory, UnitId, Word};
 use sift_bus_port::{BusLog, Constant, logs_tell_what_was_heard};
 use sift_flight::{Flight, round_flights_are_alike, round_flights_are_whole};
-use sift_load::{
-    DOCUMENT_LIMIT, MissionJob, begin_for_bytes, loading_gives_one, loading_has_own_statuses,
-};
+use sift_load::{DOCUMENT_LIMIT, MissionJob, begin_for_bytes};
 use sift_mission::{Mission, a_mission_fits, fitting_parts_make_a_flight};
-use sift_options::{Options, within};
+use sift_options::{Flag, Numbers, Options, within};
 use sift_reply::{Begun, Job, Reply, Work};
 use sift_report::{Version, alike_flights_have_one_text, report_text};
+use sift_row::Command;
 use sift_scenario::stated_missions_fit;
 use std::alloc::Global;
 use std::marker::Model;
@@ -50,18 +47,25 @@ impl Model for BusesJob {
     ghost inverse = { λ numbers. record { bus = numbers.bus; from = numbers.from; value = numbers.value } };
 }
 
-impl BusesJob {
-    /// What the options ask for: the bus, from 0 to 2, and the frame, from 0 to 999, have to be given, and
-    /// the value may be, from 0 to 65,535. Without one the bus carries absence.
-    pub fn of(options: Options) -> Option<BusesJob>
-        ensures { result ≡ buses_job_of options }
-    {
-        let bus = within(options.bus, 0, 2)? as u8;
-        let from = within(options.from, 0, 999)? as u32;
-        let value = word_given(options.value)?;
-        Some(BusesJob { bus, from, value })
-    }
+/// Which bus is faulty.
+const BUS: Flag = Flag {
+    name: "--bus",
+    numbers: Numbers::Any,
+};
 
+/// From which frame on it is.
+const FROM: Flag = Flag {
+    name: "--from",
+    numbers: Numbers::Any,
+};
+
+/// What it carries then.
+const VALUE: Flag = Flag {
+    name: "--value",
+    numbers: Numbers::Any,
+};
+
+impl BusesJob {
     /// The number of the faulty bus.
     pub fn faulty(self) -> u8
         ensures number { result ≡ self.bus }
@@ -145,36 +149,69 @@ impl Work for BusesOrder {
     ghost gives = { λ order. TellsBuses order.job (data_of order.mission) };
 }
 
-impl<M: Drop> MissionJob<M, BusesOrder> for BusesJob {
+/// What may be left to be done, a flight over three buses among it.
+pub trait FlownOverBuses: Work {
+    ghost use Rattle.sift_bus_jobs.specs.Buses.{TellsBuses};
+    ghost use Rattle.sift_mission.specs.Parts.{data_of};
+
+    /// This flight.
+    fn over_buses(order: BusesOrder) -> Self
+        ensures { (text : List ℕ) → Self.gives result text → TellsBuses order.job (data_of order.mission) text };
+}
+
+impl<M: Drop, W: FlownOverBuses> MissionJob<M, W> for BusesJob {
     ghost use Rattle.sift_bus_jobs.specs.Buses.{BusesGives};
 
     ghost gives_for = { λ means. BusesGives };
 
-    fn begin_for(
-        self,
-        _alloc: Global,
-        _means: M,
-        mission: Mission,
-    ) -> Result<Begun<BusesOrder>, NoMemory> {
+    fn begin_for(self, _alloc: Global, _means: M, mission: Mission) -> Result<Begun<W>, NoMemory> {
         if has_storm(&mission) {
             return Ok(Begun::Replied(Reply::fixed(15, "storm\n")));
         }
-        Ok(Begun::Left(BusesOrder { job: self, mission }))
+        Ok(Begun::Left(W::over_buses(BusesOrder { job: self, mission })))
     }
 }
 
-impl<M: Drop> Job<M, BusesOrder> for BusesJob {
-    ghost use Rattle.sift_bus_jobs.specs.Buses.{BusesGives};
-    ghost use Rattle.sift_load.specs.Loads.{mission_duty};
+impl<M: Drop, W: FlownOverBuses> Job<M, W> for BusesJob {
+    ghost use Rattle.sift_bus_jobs.specs.Buses.{buses_row};
+    ghost use Rattle.sift_row.specs.Row.{duty_of};
 
-    ghost duty = { λ means job. mission_duty (BusesGives job) };
+    ghost duty = { λ means job. duty_of (buses_row.does job) };
 
     fn limit(self) -> Option<u32> {
         Some(DOCUMENT_LIMIT)
     }
 
-    fn begin(self, alloc: Global, means: M, bytes: &[u8]) -> Result<Begun<BusesOrder>, NoMemory> {
+    fn begin(self, alloc: Global, means: M, bytes: &[u8]) -> Result<Begun<W>, NoMemory> {
         begin_for_bytes(alloc, means, self, bytes)
+    }
+}
+
+impl<M: Drop, W: FlownOverBuses> Command<M, W> for BusesJob {
+    ghost use Rattle.sift_bus_jobs.specs.Buses.{buses_row};
+
+    ghost row_of = { λ means. buses_row };
+
+    fn word() -> &'static str {
+        "buses"
+    }
+
+    fn flags() -> &'static [Flag] {
+        &[BUS, FROM, VALUE]
+    }
+
+    fn of(options: Options<'_>) -> Option<Self> {
+        let bus = within(options.number(BUS), 0, 2)? as u8;
+        let from = within(options.number(FROM), 0, 999)? as u32;
+        let value = word_given(options.number(VALUE))?;
+        Some(BusesJob { bus, from, value })
+    }
+
+    fn keeps_its_row() {
+        fitting_parts_make_a_flight();
+        round_flights_are_alike();
+        alike_flights_have_one_text();
+        stated_missions_fit();
     }
 }
 
@@ -193,26 +230,4 @@ fn has_storm(mission: &Mission) -> bool
         }
     }
     false
-}
-
-// ---- laws
-
-/// `buses` ends with 0, with 15 where the mission has a storm, or with the status of bytes that
-/// state no mission.
-pub fn buses_has_own_statuses()
-    ensures { (job : BusNumbers) → HasOwnStatuses (mission_duty (BusesGives job)) buses_statuses }
-{
-    loading_has_own_statuses::<(), BusesOrder, BusesJob>();
-}
-
-/// `buses` gives one reply to each input: all flights of a mission without storms tell the same, and
-/// one with a storm isn't flown.
-pub fn buses_gives_one()
-    ensures { (job : BusNumbers) → GivesOne (mission_duty (BusesGives job)) }
-{
-    loading_gives_one::<(), BusesOrder, BusesJob>();
-    fitting_parts_make_a_flight();
-    round_flights_are_alike();
-    alike_flights_have_one_text();
-    stated_missions_fit();
 }

@@ -5,4 +5,4 @@
 mod buses;
 mod counts;
 
-pub use buses::{BusesJob, BusesOrder, buses_gives_one, buses_has_own_statuses};
+pub use buses::{BusesJob, BusesOrder, FlownOverBuses};

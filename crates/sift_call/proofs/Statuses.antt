@@ -1,31 +1,35 @@
 -- Which statuses a reply may have.
-use Rattle.std.proofs.Common.{◌≡◌, ◌≤◌, ◌<◌, ℕ, ◌⊎◌, inl, inr, List, [], length, Option, Some, None, All, ap, refl, arith}
+use Rattle.std.proofs.Common.{◌≡◌, ◌≤◌, ◌<◌, ℕ, ◌⊎◌, inl, inr, List, [], length, get_or, Contains, Option, Some, None, All, ap, refl, arith}
 use Rattle.std.proofs.lemmas.List.Elements.{All-contains}
 use Rattle.std.proofs.lemmas.Grind.{common_steps}
-use Rattle.sift_rogue.specs.Rogues.{AllowsDrawn}
-use Rattle.sift_alone.specs.Flown.{flying_with}
-use Rattle.sift_alone.specs.Given.{resting_storms}
-use Rattle.sift_commands.specs.Command.{duty_of}
-use Rattle.sift_commands.specs.Statuses.{CommandsHaveOwnStatuses, own_statuses}
-use Rattle.sift_commands.specs.declared.command.Command.{Command}
-use Rattle.sift_commands.specs.declared.command.Command.TheVariants.{Run, Votes, Ideal, Check, Gen, Trial, Plan, Judge, Buses, Byz, Clocks}
+use Rattle.sift_load.specs.Loads.{no_mission_statuses}
 use Rattle.sift_reply.specs.Duty.{Duty, HasOwnStatuses, IsOwedTo}
 use Rattle.sift_reply.specs.Reply.{Reply, too_long}
-use Rattle.sift_call.specs.Told.{IsTold, last_status}
+use Rattle.sift_row.specs.Laws.{AreKept, own_statuses}
+use Rattle.sift_row.specs.Row.{Reads, Nothing, Mission, Bytes, statuses_with}
+use Rattle.sift_call.specs.Told.{IsTold, last_status, listed}
 
--- the statuses of each command are low
-low : (command : Command) → All (λ status. status ≤ last_status) (own_statuses command)
-low (Run job) = grind (arith, common_steps)
-low (Votes job) = grind (arith, common_steps)
-low (Ideal job) = grind (arith, common_steps)
-low (Check job) = grind (arith, common_steps)
-low (Gen job) = grind (arith, common_steps)
-low (Trial job) = grind (arith, common_steps)
-low (Plan job) = grind (arith, common_steps)
-low (Judge job) = grind (arith, common_steps)
-low (Buses job) = grind (arith, common_steps)
-low (Byz job) = grind (arith, common_steps)
-low (Clocks job) = grind (arith, common_steps)
+-- the status is one that a reply may have
+abbrev IsLow : ℕ → Type 0
+IsLow status = status ≤ last_status
+
+-- all that are listed are
+all_low : All IsLow listed.rows.all_statuses
+all_low = grind (arith, common_steps)
+
+-- and so are those with the ones of bytes that state no mission
+with_others : (does : Reads) (statuses : List ℕ) → All IsLow statuses → All IsLow (statuses_with does statuses)
+with_others (Nothing gives) statuses all = all
+with_others (Mission flies gives) statuses all = let others : All IsLow no_mission_statuses = grind (arith, common_steps) in grind (arith, common_steps)
+with_others (Bytes limit gives) statuses all = all
+
+-- each one that is among those of a list that are low is
+from_each : (statuses : List ℕ) → ((status : ℕ) → Contains statuses status → IsLow status) → All IsLow statuses
+from_each statuses low k d here = low (get_or statuses k d) (k, here, grind (arith, common_steps))
+
+low : AreKept listed.rows → (command : listed.Command) → All IsLow (own_statuses listed.rows command)
+low kept command = with_others (listed.rows.does command) (listed.rows.statuses command)
+    (from_each (listed.rows.statuses command) (λ status has. All-contains IsLow listed.rows.all_statuses status all_low (kept.listed command status has)))
 
 -- and so is that of what is owed
 owed : (duty : Duty) (statuses : List ℕ) (input : List ℕ) (reply : Reply) → HasOwnStatuses duty statuses → All (λ status. status ≤ last_status) statuses
@@ -37,8 +41,7 @@ owed duty statuses input reply own all (Some limit) is owes = by (rw is at owes)
     by (inl (short, gives)) = All-contains (λ status. status ≤ last_status) statuses reply.status all (own.among input reply gives)
     by (inr (long, said)) = rw said (omega arith)
 
-pub known : CommandsHaveOwnStatuses (flying_with AllowsDrawn resting_storms)
-    → (words : List (List ℕ)) (input : List ℕ) (status : ℕ) (text : List ℕ) → IsTold words input status text → status ≤ last_status
-known own words input status text (inl (none, is)) = let two : status ≡ 2 = ap (λ (r : Reply). r.status) is in omega (arith, two)
-known own words input status text (inr (command, asks, owes)) =
-    owed (duty_of (flying_with AllowsDrawn resting_storms) command) (own_statuses command) input (record { status = status; text = text }) (own command) (low command) _ refl owes
+pub known : AreKept listed.rows → (words : List (List ℕ)) (input : List ℕ) (status : ℕ) (text : List ℕ) → IsTold words input status text → status ≤ last_status
+known kept words input status text (inl (none, is)) = let two : status ≡ 2 = ap (λ (r : Reply). r.status) is in omega (arith, two)
+known kept words input status text (inr (command, asks, owes)) =
+    owed (listed.rows.duty command) (own_statuses listed.rows command) input (record { status = status; text = text }) (kept.own command) (low kept command) _ refl owes

@@ -8,7 +8,7 @@ ghost use Rattle.sift_reply.specs.Reply.{no_memory_status};
 use crate::room::RoomOut;
 use sift_alone::{Fleet, sift_alone, storms};
 use sift_base::NoMemory;
-use sift_commands::commands_have_own_statuses;
+use sift_commands::commands_are_kept;
 use sift_io::SureIn;
 use sift_reply::NO_MEMORY_STATUS;
 use sift_rogue::Storm;
@@ -60,7 +60,7 @@ fn told_to(
         × BeginsWith sink.new.room.now text × (answer.length ≡ length text)) }
     ensures known { IfOk result (λ answer. (answer.status ≤ last_status) × (answer.status ≢ no_memory_status)) }
 {
-    commands_have_own_statuses::<Fleet<Storm>>();
+    commands_are_kept::<Fleet<Storm>>();
     let mut source = SureIn::new(Vec::from_slice(alloc, input)?, STEP);
     let fleet = Fleet::of(storms(alloc)?);
     let Fleet { rogues } = fleet;

@@ -7,7 +7,7 @@ ghost use Rattle.sift_call.specs.Laws.{CallsTellWhatTheProgramWrites};
 ghost use Rattle.sift_rogue.specs.declared.storm.Storm.{Storm as TheStorm};
 
 use sift_alone::Fleet;
-use sift_commands::{Command, Order, commands_give_one, one_command};
+use sift_commands::{Command, Order, commands_are_kept, one_command};
 use sift_reply::gives_one_owes_one;
 use sift_rogue::Storm;
 
@@ -16,7 +16,7 @@ use sift_rogue::Storm;
 pub fn calls_tell_what_the_program_writes()
     ensures { (fleet : TheFleet TheStorm) → fleet.rogues.items ≡ resting_storms → CallsTellWhatTheProgramWrites }
 {
-    one_command();
-    commands_give_one::<Fleet<Storm>>();
+    one_command::<Fleet<Storm>>();
+    commands_are_kept::<Fleet<Storm>>();
     gives_one_owes_one::<Fleet<Storm>, Order<Fleet<Storm>>, Command>();
 }

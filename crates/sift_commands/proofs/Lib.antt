@@ -1,6 +1,3 @@
-pub mod Each
 pub mod Headline
-pub mod One
-pub mod Statuses
 pub mod Stated
-pub mod Workers
+pub mod Statuses

@@ -5,12 +5,10 @@ ghost use Rattle.sift_bus_jobs.specs.Buses.{TellsBuses};
 ghost use Rattle.sift_commands.specs.Order.{Tells};
 ghost use Rattle.sift_jobs.specs.Flights.{TellsFlight};
 ghost use Rattle.sift_mission.specs.Parts.{data_of};
-ghost use Rattle.sift_reply.specs.Begun.{MayCome};
-ghost use Rattle.sift_reply.specs.Reply as spec;
 
-use sift_bus_jobs::BusesOrder;
-use sift_jobs::{Flier, FlightOrder};
-use sift_reply::{Begun, Work};
+use sift_bus_jobs::{BusesOrder, FlownOverBuses};
+use sift_jobs::{Flier, FlightOrder, Flown};
+use sift_reply::Work;
 
 /// A flight that a command leaves to be flown, and told of.
 #[derive(Drop)]
@@ -27,24 +25,19 @@ impl<F: Flier> Work for Order<F> {
     ghost gives = { Tells F.flying };
 }
 
-/// How far a command has come whose job flies by workers.
-pub(crate) fn by_workers<F: Flier>(begun: Begun<FlightOrder<F>>) -> Begun<Order<F>>
-    ensures { (reply : spec.Reply) → MayCome (Tells F.flying) result reply
-        → MayCome (λ order. TellsFlight (F.flying order.flier) order.workers (data_of order.mission) order.telling) begun reply }
-{
-    match begun {
-        Begun::Replied(reply) => Begun::Replied(reply),
-        Begun::Left(order) => Begun::Left(Order::ByWorkers(order)),
+impl<F: Flier> Flown<F> for Order<F> {
+    fn by_workers(order: FlightOrder<F>) -> Self
+        ensures { (text : List ℕ) → Tells F.flying result text
+            → TellsFlight (F.flying order.flier) order.workers (data_of order.mission) order.telling text }
+    {
+        Order::ByWorkers(order)
     }
 }
 
-/// How far one has come whose job flies over buses.
-pub(crate) fn over_buses<F: Flier>(begun: Begun<BusesOrder>) -> Begun<Order<F>>
-    ensures { (reply : spec.Reply) → MayCome (Tells F.flying) result reply
-        → MayCome (λ order. TellsBuses order.job (data_of order.mission)) begun reply }
-{
-    match begun {
-        Begun::Replied(reply) => Begun::Replied(reply),
-        Begun::Left(order) => Begun::Left(Order::OverBuses(order)),
+impl<F: Flier> FlownOverBuses for Order<F> {
+    fn over_buses(order: BusesOrder) -> Self
+        ensures { (text : List ℕ) → Tells F.flying result text → TellsBuses order.job (data_of order.mission) text }
+    {
+        Order::OverBuses(order)
     }
 }

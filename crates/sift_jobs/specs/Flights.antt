@@ -1,8 +1,7 @@
 -- The flights that commands speak of: over which strays, by whom, and what is told of one.
 use Rattle.std.specs.Prelude.{ℕ, ◌≡◌, List, ⊤}
 use Rattle.std.specs.List.{All}
-use Rattle.sift_flight.specs.Flight.{Flight, Strays, HasNoStorms, IsRound}
-use Rattle.sift_load.specs.Loads.{States}
+use Rattle.sift_flight.specs.Flight.{Flight, Strays, IsRound}
 use Rattle.sift_mission.specs.Data.{MissionData}
 use Rattle.sift_mission.specs.Flown.{flown}
 use Rattle.sift_reply.specs.Reply.{Reply, done}
@@ -36,10 +35,6 @@ freely given = record { gives = given; flies = λ workers mission flight. ⊤ }
 pub record IsFlownBy (flying : Flying) (workers : Workers) (mission : MissionData) (flight : Flight) : Type 0 where
   pub over : IsFlightOf flying.gives mission flight
   pub by : flying.flies workers mission flight
-
--- no mission that the bytes state has a storm
-abbrev pub AreCalm : List ℕ → Type 0
-AreCalm bytes = (mission : MissionData) → States bytes mission → HasNoStorms (flown mission)
 
 -- ---- what is told of a flight
 

@@ -1,17 +1,16 @@
 -- The command `plan`: the tables of a plan for the configurations of all sizes.
-use Rattle.std.specs.Prelude.{codes, ℕ, ◌≡◌, ◌≤◌, ◌⊎◌, List, [], ◌∷◌, Option, Some, None}
+use Rattle.std.specs.Prelude.{codes, ℕ, ◌≡◌, ◌≤◌, ◌⊎◌, false, List, [], ◌∷◌, Option, Some, None}
 use Rattle.std.specs.Fmt.{decimal}
 use Rattle.std.specs.List.{concat}
 use Rattle.sift_base.specs.Units.{unit_limit}
-use Rattle.sift_load.specs.Loads.{no_mission_statuses}
 use Rattle.sift_mission.specs.Data.{MissionData, shapes_in}
-use Rattle.sift_options.specs.Options.{within}
-use Rattle.sift_options.specs.declared.setting.Options.{Options}
+use Rattle.sift_options.specs.Options.{Allowed, Given, any_number, within}
 use Rattle.sift_planner.specs.declared.planning.NoRoomAt.{NoRoomAt}
 use Rattle.sift_planner.specs.Plans.{longest_period}
 use Rattle.sift_planner.specs.Sizes.{ArePlans, IsFirstWithoutRoom}
 use Rattle.sift_planner.specs.Text.{tables_text}
 use Rattle.sift_reply.specs.Reply.{Reply, done, done_status}
+use Rattle.sift_row.specs.Row.{Mission, Row}
 use Rattle.sift_table.specs.Rules.{least_executors}
 use Rattle.sift_table.specs.Schedule.{Schedule, shortest_period}
 
@@ -34,9 +33,17 @@ abbrev pub plan_with : (copies period : Option ℕ) → Option PlanNumbers
 plan_with (Some copies) (Some period) = Some (record { copies = copies; period = period })
 plan_with copies period = None
 
+-- the options
+abbrev pub copies_flag : Allowed
+copies_flag = any_number (codes "--copies")
+
+abbrev pub subframes_flag : Allowed
+subframes_flag = any_number (codes "--subframes")
+
 -- what options ask for: both have to be given, in their ranges
-abbrev pub plan_job_of : Options → Option PlanNumbers
-plan_job_of options = plan_with (within least_executors unit_limit options.copies) (within shortest_period longest_period options.subframes)
+abbrev pub plan_job_of : Given → Option PlanNumbers
+plan_job_of options = plan_with (within least_executors unit_limit (options copies_flag.name))
+    (within shortest_period longest_period (options subframes_flag.name))
 
 -- ---- what it gives
 
@@ -50,6 +57,13 @@ PlanGives numbers mission came =
     ((tables : List Schedule) × ArePlans (shapes_in mission) mission.units numbers.period numbers.copies tables × (came ≡ done (tables_text tables)))
     ⊎ ((none : NoRoomAt) × IsFirstWithoutRoom (shapes_in mission) mission.units numbers.period numbers.copies none × (came ≡ no_room none))
 
--- the statuses of its replies
-abbrev pub plan_statuses : List ℕ
-plan_statuses = done_status ∷ 14 ∷ no_mission_statuses
+-- its row
+abbrev pub plan_row : Row PlanNumbers
+plan_row = record {
+  word = codes "plan";
+  flags = copies_flag ∷ subframes_flag ∷ [];
+  job_of = plan_job_of;
+  does = λ numbers. Mission false (PlanGives numbers);
+  statuses = done_status ∷ 14 ∷ [];
+  by_one = λ numbers. numbers;
+}

@@ -1,11 +1,10 @@
 -- The command `run`: by which workers it flies, as for every command that flies, the report of a flight in the version asked for, and what its lines tell.
-use Rattle.std.specs.Prelude.{ℕ, Option, Some, None, option_map, unwrap_or, nat_eq, if◌then◌else◌, ◌≡◌, List}
+use Rattle.std.specs.Prelude.{codes, ℕ, [], ◌∷◌, true, Option, Some, None, option_map, unwrap_or, nat_eq, if◌then◌else◌, ◌≡◌, List}
 use Rattle.sift_base.specs.Units.{unit_limit}
 use Rattle.sift_flight.specs.Flight.{Flight}
 use Rattle.sift_load.specs.Loads.{LoadsThen, States}
 use Rattle.sift_mission.specs.Data.{MissionData}
-use Rattle.sift_options.specs.Options.{within}
-use Rattle.sift_options.specs.declared.setting.Options.{Options}
+use Rattle.sift_options.specs.Options.{Allowed, Given, digits_to, any_number, within}
 use Rattle.sift_reply.specs.Reply.{Reply, done_status}
 use Rattle.sift_line.specs.declared.line.ReportLine.{ReportLine}
 use Rattle.sift_line.specs.declared.line.Version.{Version}
@@ -14,6 +13,7 @@ use Rattle.sift_mission.specs.Flown.{flown}
 use Rattle.sift_report.specs.Caught.{ReportCaught}
 use Rattle.sift_report.specs.Headline.{ReportHeadline}
 use Rattle.sift_report.specs.Sheet.{sheet_of}
+use Rattle.sift_row.specs.Row.{Mission, Row}
 use Rattle.sift_jobs.specs.Flights.{Flying, IsFlownBy, IsTelling, RepliesWith}
 use Rattle.sift_jobs.specs.Several.{fewest_workers}
 use Rattle.sift_jobs.specs.declared.run.RunJob.{RunJob}
@@ -22,6 +22,13 @@ use Rattle.sift_jobs.specs.declared.order.Workers.{Workers}
 use Rattle.sift_jobs.specs.declared.order.Workers.TheVariants as worker
 
 -- ---- the workers that fly a mission, and how options ask for them
+
+-- the options for them: how many, and in which order one worker's units step
+abbrev pub workers_flag : Allowed
+workers_flag = digits_to unit_limit (codes "--workers")
+
+abbrev pub order_flag : Allowed
+order_flag = any_number (codes "--order")
 
 -- the workers that these options ask for: one for each unit where there is neither, one alone for an order or for 1, and else so many, without order
 abbrev pub workers_of : (workers order : Option ℕ) → Option Workers
@@ -37,18 +44,33 @@ workers_of (Some count) (Some order) = if nat_eq count 1 then Some (worker.One o
 abbrev pub usual_version : ℕ
 usual_version = 2
 
+-- the option for a version
+abbrev pub report_flag : Allowed
+report_flag = digits_to usual_version (codes "--report")
+
 -- the version that options ask for
-abbrev pub version_of : Options → Version
-version_of options = if nat_eq (unwrap_or options.report usual_version) 1 then One else Two
+abbrev pub version_of : Given → Version
+version_of options = if nat_eq (unwrap_or (options report_flag.name) usual_version) 1 then One else Two
 
 -- what options ask for: the workers, and the version
-abbrev pub run_job_of : Options → Option RunJob
-run_job_of options =
-    option_map (λ workers. record { workers = workers; version = version_of options }) (workers_of options.workers options.order)
+abbrev pub run_job_of : Given → Option RunJob
+run_job_of options = option_map (λ workers. record { workers = workers; version = version_of options })
+    (workers_of (options workers_flag.name) (options order_flag.name))
 
 -- the report of a flight of the mission by these workers, in that version; what it prints are lines
 abbrev pub RunGives : Flying → RunJob → MissionData → Reply → Type 0
 RunGives flying job mission = RepliesWith flying job.workers mission (Report job.version)
+
+-- its row
+abbrev pub run_row : Flying → Row RunJob
+run_row flying = record {
+  word = codes "run";
+  flags = workers_flag ∷ order_flag ∷ report_flag ∷ [];
+  job_of = run_job_of;
+  does = λ job. Mission true (RunGives flying job);
+  statuses = done_status ∷ [];
+  by_one = λ job. record { workers = worker.One 0; version = job.version };
+}
 
 -- ---- what the lines of its report tell
 

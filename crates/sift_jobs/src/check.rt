@@ -3,7 +3,9 @@
 use sift_base::NoMemory;
 use sift_load::{DOCUMENT_LIMIT, MissionJob, begin_for_bytes};
 use sift_mission::Mission;
+use sift_options::{Flag, Options};
 use sift_reply::{Begun, Job, Reply, Work};
+use sift_row::Command;
 use std::alloc::Global;
 
 /// `check`: tells that the input states a mission.
@@ -28,10 +30,10 @@ impl<M: Drop, W: Work> MissionJob<M, W> for CheckJob {
 }
 
 impl<M: Drop, W: Work> Job<M, W> for CheckJob {
-    ghost use Rattle.sift_jobs.specs.Unflown.{CheckGives};
-    ghost use Rattle.sift_load.specs.Loads.{mission_duty};
+    ghost use Rattle.sift_jobs.specs.Unflown.{check_row};
+    ghost use Rattle.sift_row.specs.Row.{duty_of};
 
-    ghost duty = { λ means job. mission_duty (CheckGives job) };
+    ghost duty = { λ means job. duty_of (check_row.does job) };
 
     fn limit(self) -> Option<u32> {
         Some(DOCUMENT_LIMIT)
@@ -40,4 +42,24 @@ impl<M: Drop, W: Work> Job<M, W> for CheckJob {
     fn begin(self, alloc: Global, means: M, bytes: &[u8]) -> Result<Begun<W>, NoMemory> {
         begin_for_bytes(alloc, means, self, bytes)
     }
+}
+
+impl<M: Drop, W: Work> Command<M, W> for CheckJob {
+    ghost use Rattle.sift_jobs.specs.Unflown.{check_row};
+
+    ghost row_of = { λ means. check_row };
+
+    fn word() -> &'static str {
+        "check"
+    }
+
+    fn flags() -> &'static [Flag] {
+        &[]
+    }
+
+    fn of(_options: Options<'_>) -> Option<Self> {
+        Some(CheckJob)
+    }
+
+    fn keeps_its_row() {}
 }

@@ -3,8 +3,10 @@
 use sift_base::NoMemory;
 use sift_load::{DOCUMENT_LIMIT, MissionJob, begin_for_bytes};
 use sift_mission::Mission;
+use sift_options::{Flag, Options};
 use sift_reply::{Begun, Job, Reply, Work};
 use sift_report::ideal_text;
+use sift_row::Command;
 use std::alloc::Global;
 
 /// `ideal`: tells what the ideal machine puts out over the mission's own sensor words.
@@ -23,10 +25,10 @@ impl<M: Drop, W: Work> MissionJob<M, W> for IdealJob {
 }
 
 impl<M: Drop, W: Work> Job<M, W> for IdealJob {
-    ghost use Rattle.sift_jobs.specs.Unflown.{IdealGives};
-    ghost use Rattle.sift_load.specs.Loads.{mission_duty};
+    ghost use Rattle.sift_jobs.specs.Unflown.{ideal_row};
+    ghost use Rattle.sift_row.specs.Row.{duty_of};
 
-    ghost duty = { λ means job. mission_duty (IdealGives job) };
+    ghost duty = { λ means job. duty_of (ideal_row.does job) };
 
     fn limit(self) -> Option<u32> {
         Some(DOCUMENT_LIMIT)
@@ -35,4 +37,24 @@ impl<M: Drop, W: Work> Job<M, W> for IdealJob {
     fn begin(self, alloc: Global, means: M, bytes: &[u8]) -> Result<Begun<W>, NoMemory> {
         begin_for_bytes(alloc, means, self, bytes)
     }
+}
+
+impl<M: Drop, W: Work> Command<M, W> for IdealJob {
+    ghost use Rattle.sift_jobs.specs.Unflown.{ideal_row};
+
+    ghost row_of = { λ means. ideal_row };
+
+    fn word() -> &'static str {
+        "ideal"
+    }
+
+    fn flags() -> &'static [Flag] {
+        &[]
+    }
+
+    fn of(_options: Options<'_>) -> Option<Self> {
+        Some(IdealJob)
+    }
+
+    fn keeps_its_row() {}
 }

@@ -1,18 +1,18 @@
 //! Flights that are still to be flown: by whom, and what is to be told of them.
 
-ghost use Rattle.std.specs.Prelude.{◌≡◌, IfOk, string_bytes};
+ghost use Rattle.std.specs.Prelude.{ℕ, List, ◌≡◌, IfOk, string_bytes};
 ghost use Rattle.sift_base.specs.Units.{unit_limit};
 ghost use Rattle.sift_flight.specs.Told.{IsWhole, told};
 ghost use Rattle.sift_jobs.specs.Flights.{IsTelling};
-ghost use Rattle.sift_jobs.specs.Run.{workers_of};
+ghost use Rattle.sift_jobs.specs.Run.{order_flag, workers_flag, workers_of};
 ghost use Rattle.sift_jobs.specs.Several.{AreSeveral, fewest_workers};
 ghost use Rattle.sift_mission.specs.Parts.{data_of, flown_of};
-ghost use Rattle.sift_options.specs.Options.{within};
+ghost use Rattle.sift_options.specs.Options.{given_by, within};
 
 use sift_base::NoMemory;
 use sift_flight::Flight;
 use sift_mission::Mission;
-use sift_options::{Options, within};
+use sift_options::{Flag, Numbers, Options, within};
 use sift_reply::Work;
 use sift_report::{Version, last_line_text, report_text, votes_text};
 use std::alloc::Global;
@@ -30,6 +30,18 @@ pub trait Flier: Drop {
     ghost flying: { Self → Flying };
 }
 
+/// How many workers fly.
+pub(crate) const WORKERS: Flag = Flag {
+    name: "--workers",
+    numbers: Numbers::Digit(8),
+};
+
+/// In which order one worker's units step.
+pub(crate) const ORDER: Flag = Flag {
+    name: "--order",
+    numbers: Numbers::Any,
+};
+
 /// The workers that fly a mission.
 #[derive(Clone, Copy)]
 pub enum Workers {
@@ -44,10 +56,10 @@ pub enum Workers {
 impl Workers {
     /// What the options ask for: one for each unit where they name neither workers nor an order. An order is for one
     /// worker alone, whose order is 0 where none is given.
-    pub fn of(options: Options) -> Option<Workers>
-        ensures { result ≡ workers_of options.workers options.order }
+    pub fn of(options: Options<'_>) -> Option<Workers>
+        ensures { result ≡ workers_of (given_by options.entry workers_flag.name) (given_by options.entry order_flag.name) }
     {
-        match (options.workers, options.order) {
+        match (options.number(WORKERS), options.number(ORDER)) {
             (None, None) => Some(Workers::OneEach),
             (None | Some(1), order) => Some(Workers::One {
                 order: order.unwrap_or(0),
@@ -137,4 +149,14 @@ impl<F: Flier> Work for FlightOrder<F> {
     ghost use Rattle.sift_mission.specs.Parts.{data_of};
 
     ghost gives = { λ order. TellsFlight (F.flying order.flier) order.workers (data_of order.mission) order.telling };
+}
+
+/// What may be left to be done, a flight by workers among it.
+pub trait Flown<F: Flier>: Work {
+    ghost use Rattle.sift_jobs.specs.Flights.{TellsFlight};
+    ghost use Rattle.sift_mission.specs.Parts.{data_of};
+
+    /// This flight.
+    fn by_workers(order: FlightOrder<F>) -> Self
+        ensures { (text : List ℕ) → Self.gives result text → TellsFlight (F.flying order.flier) order.workers (data_of order.mission) order.telling text };
 }

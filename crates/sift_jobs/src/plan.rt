@@ -1,16 +1,18 @@
 //! The command `plan`.
 
 ghost use Rattle.std.specs.Prelude.{◌≡◌, IfOk};
-ghost use Rattle.sift_jobs.specs.Plan.{PlanGives, no_room, plan_job_of};
+ghost use Rattle.sift_jobs.specs.Plan.{PlanGives, no_room};
 ghost use Rattle.sift_mission.specs.Parts.{data_of};
 
 use sift_base::{NoMemory, Stop};
 use sift_load::{DOCUMENT_LIMIT, MissionJob, begin_for_bytes};
 use sift_mission::Mission;
-use sift_options::{Options, within};
-use sift_planner::{NoRoomAt, plan_sizes, tables_text};
-use sift_program::shapes_of;
+use sift_options::{Flag, Numbers, Options, within};
+use sift_planner::{NoRoomAt, one_plan_each, one_size_without_room, plan_sizes, tables_text};
+use sift_program::{shapes_of, sound_programs_have_shapes};
 use sift_reply::{Begun, Job, Reply, Work};
+use sift_row::Command;
+use sift_scenario::stated_missions_fit;
 use std::alloc::Global;
 use std::marker::Model;
 
@@ -36,16 +38,19 @@ impl Model for PlanJob {
     ghost inverse = { λ numbers. record { copies = numbers.copies; period = numbers.period } };
 }
 
-impl PlanJob {
-    /// What the options ask for: both have to be given, 3 to 8 copies and 12 to 64 subframes.
-    pub fn of(options: Options) -> Option<PlanJob>
-        ensures { result ≡ plan_job_of options }
-    {
-        let copies = within(options.copies, 3, 8)? as u8;
-        let period = within(options.subframes, 12, 64)? as u8;
-        Some(PlanJob { copies, period })
-    }
+/// How many units run each task.
+const COPIES: Flag = Flag {
+    name: "--copies",
+    numbers: Numbers::Any,
+};
 
+/// How many subframes a frame has.
+const SUBFRAMES: Flag = Flag {
+    name: "--subframes",
+    numbers: Numbers::Any,
+};
+
+impl PlanJob {
     /// The reply for a mission: the plans of its tasks, or the first without room.
     fn reply_for(self, alloc: Global, mission: &Mission) -> Result<Reply, NoMemory>
         ensures { IfOk result (PlanGives self (data_of mission.now)) }
@@ -81,10 +86,10 @@ fn no_room(alloc: Global, none: NoRoomAt) -> Result<Reply, NoMemory>
 }
 
 impl<M: Drop, W: Work> Job<M, W> for PlanJob {
-    ghost use Rattle.sift_jobs.specs.Plan.{PlanGives};
-    ghost use Rattle.sift_load.specs.Loads.{mission_duty};
+    ghost use Rattle.sift_jobs.specs.Plan.{plan_row};
+    ghost use Rattle.sift_row.specs.Row.{duty_of};
 
-    ghost duty = { λ means job. mission_duty (PlanGives job) };
+    ghost duty = { λ means job. duty_of (plan_row.does job) };
 
     fn limit(self) -> Option<u32> {
         Some(DOCUMENT_LIMIT)
@@ -92,5 +97,32 @@ impl<M: Drop, W: Work> Job<M, W> for PlanJob {
 
     fn begin(self, alloc: Global, means: M, bytes: &[u8]) -> Result<Begun<W>, NoMemory> {
         begin_for_bytes(alloc, means, self, bytes)
+    }
+}
+
+impl<M: Drop, W: Work> Command<M, W> for PlanJob {
+    ghost use Rattle.sift_jobs.specs.Plan.{plan_row};
+
+    ghost row_of = { λ means. plan_row };
+
+    fn word() -> &'static str {
+        "plan"
+    }
+
+    fn flags() -> &'static [Flag] {
+        &[COPIES, SUBFRAMES]
+    }
+
+    fn of(options: Options<'_>) -> Option<Self> {
+        let copies = within(options.number(COPIES), 3, 8)? as u8;
+        let period = within(options.number(SUBFRAMES), 12, 64)? as u8;
+        Some(PlanJob { copies, period })
+    }
+
+    fn keeps_its_row() {
+        stated_missions_fit();
+        sound_programs_have_shapes();
+        one_plan_each();
+        one_size_without_room();
     }
 }

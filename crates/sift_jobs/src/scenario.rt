@@ -1,12 +1,10 @@
 //! The command `gen`.
 
-ghost use Rattle.std.specs.Prelude.{◌≡◌};
-ghost use Rattle.sift_jobs.specs.Gen.{gen_job_of};
-
 use sift_base::NoMemory;
-use sift_gen::scenario_text;
-use sift_options::Options;
+use sift_gen::{one_text_of_a_number, scenario_text};
+use sift_options::{Flag, Numbers, Options};
 use sift_reply::{Begun, Job, Reply, Work};
+use sift_row::Command;
 use std::alloc::Global;
 
 /// `gen`: writes the scenario that is drawn from this number, and reads nothing.
@@ -15,21 +13,17 @@ pub struct GenJob {
     pub number: u64,
 }
 
-impl GenJob {
-    /// What the options ask for: the number has to be given.
-    pub fn of(options: Options) -> Option<GenJob>
-        ensures { result ≡ gen_job_of options }
-    {
-        Some(GenJob {
-            number: options.number?,
-        })
-    }
-}
+/// From which number something is drawn.
+pub const NUMBER: Flag = Flag {
+    name: "--number",
+    numbers: Numbers::Any,
+};
 
 impl<M: Drop, W: Work> Job<M, W> for GenJob {
-    ghost use Rattle.sift_jobs.specs.Gen.{gen_duty};
+    ghost use Rattle.sift_jobs.specs.Gen.{gen_row};
+    ghost use Rattle.sift_row.specs.Row.{duty_of};
 
-    ghost duty = { λ means. gen_duty };
+    ghost duty = { λ means job. duty_of (gen_row.does job) };
 
     fn limit(self) -> Option<u32> {
         None
@@ -38,5 +32,29 @@ impl<M: Drop, W: Work> Job<M, W> for GenJob {
     fn begin(self, alloc: Global, _means: M, _bytes: &[u8]) -> Result<Begun<W>, NoMemory> {
         let text = scenario_text(alloc, self.number)?;
         Ok(Begun::Replied(Reply::done(text)))
+    }
+}
+
+impl<M: Drop, W: Work> Command<M, W> for GenJob {
+    ghost use Rattle.sift_jobs.specs.Gen.{gen_row};
+
+    ghost row_of = { λ means. gen_row };
+
+    fn word() -> &'static str {
+        "gen"
+    }
+
+    fn flags() -> &'static [Flag] {
+        &[NUMBER]
+    }
+
+    fn of(options: Options<'_>) -> Option<Self> {
+        Some(GenJob {
+            number: options.number(NUMBER)?,
+        })
+    }
+
+    fn keeps_its_row() {
+        one_text_of_a_number();
     }
 }

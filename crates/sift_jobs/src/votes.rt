@@ -1,14 +1,15 @@
 //! The command `votes`.
 
-ghost use Rattle.std.specs.Prelude.{◌≡◌};
-ghost use Rattle.sift_jobs.specs.Votes.{votes_job_of};
-
-use crate::order::{Flier, FlightOrder, Telling, Workers};
+use crate::order::{Flier, FlightOrder, Flown, ORDER, Telling, WORKERS, Workers};
 use sift_base::NoMemory;
+use sift_flight::round_flights_are_alike;
 use sift_load::{DOCUMENT_LIMIT, MissionJob, begin_for_bytes};
-use sift_mission::Mission;
-use sift_options::Options;
+use sift_mission::{Mission, fitting_parts_make_a_flight};
+use sift_options::{Flag, Options};
 use sift_reply::{Begun, Job};
+use sift_report::alike_flights_have_one_text;
+use sift_row::Command;
+use sift_scenario::stated_missions_fit;
 use std::alloc::Global;
 
 /// `votes`: flies the mission that the input states by these workers, and tells each vote with the words that were polled.
@@ -17,53 +18,59 @@ pub struct VotesJob {
     pub workers: Workers,
 }
 
-impl VotesJob {
-    /// What the options ask for: the workers.
-    pub fn of(options: Options) -> Option<VotesJob>
-        ensures { result ≡ votes_job_of options }
-    {
-        Some(VotesJob {
-            workers: Workers::of(options)?,
-        })
-    }
-}
-
-impl<F: Flier> MissionJob<F, FlightOrder<F>> for VotesJob {
+impl<F: Flier, W: Flown<F>> MissionJob<F, W> for VotesJob {
     ghost use Rattle.sift_jobs.specs.Votes.{VotesGives};
 
     ghost gives_for = { λ flier. VotesGives (F.flying flier) };
 
-    fn begin_for(
-        self,
-        _alloc: Global,
-        flier: F,
-        mission: Mission,
-    ) -> Result<Begun<FlightOrder<F>>, NoMemory> {
-        Ok(Begun::Left(FlightOrder {
+    fn begin_for(self, _alloc: Global, flier: F, mission: Mission) -> Result<Begun<W>, NoMemory> {
+        Ok(Begun::Left(W::by_workers(FlightOrder {
             flier,
             mission,
             workers: self.workers,
             telling: Telling::Votes,
-        }))
+        })))
     }
 }
 
-impl<F: Flier> Job<F, FlightOrder<F>> for VotesJob {
-    ghost use Rattle.sift_jobs.specs.Votes.{VotesGives};
-    ghost use Rattle.sift_load.specs.Loads.{mission_duty};
+impl<F: Flier, W: Flown<F>> Job<F, W> for VotesJob {
+    ghost use Rattle.sift_jobs.specs.Votes.{votes_row};
+    ghost use Rattle.sift_row.specs.Row.{duty_of};
 
-    ghost duty = { λ flier job. mission_duty (VotesGives (F.flying flier) job) };
+    ghost duty = { λ flier job. duty_of ((votes_row (F.flying flier)).does job) };
 
     fn limit(self) -> Option<u32> {
         Some(DOCUMENT_LIMIT)
     }
 
-    fn begin(
-        self,
-        alloc: Global,
-        flier: F,
-        bytes: &[u8],
-    ) -> Result<Begun<FlightOrder<F>>, NoMemory> {
+    fn begin(self, alloc: Global, flier: F, bytes: &[u8]) -> Result<Begun<W>, NoMemory> {
         begin_for_bytes(alloc, flier, self, bytes)
+    }
+}
+
+impl<F: Flier, W: Flown<F>> Command<F, W> for VotesJob {
+    ghost use Rattle.sift_jobs.specs.Votes.{votes_row};
+
+    ghost row_of = { λ flier. votes_row (F.flying flier) };
+
+    fn word() -> &'static str {
+        "votes"
+    }
+
+    fn flags() -> &'static [Flag] {
+        &[WORKERS, ORDER]
+    }
+
+    fn of(options: Options<'_>) -> Option<Self> {
+        Some(VotesJob {
+            workers: Workers::of(options)?,
+        })
+    }
+
+    fn keeps_its_row() {
+        fitting_parts_make_a_flight();
+        round_flights_are_alike();
+        alike_flights_have_one_text();
+        stated_missions_fit();
     }
 }

@@ -5,11 +5,11 @@ use Rattle.sift_judge.specs.Verdict.{IsVerdict}
 use Rattle.sift_load.specs.Laws.{OneReplyIsGiven}
 use Rattle.sift_load.specs.Loads.{LoadsThen}
 use Rattle.sift_mission.specs.Data.{MissionData}
-use Rattle.sift_reply.specs.Duty.{GivesOne}
 use Rattle.sift_reply.specs.Reply.{Reply}
+use Rattle.sift_row.specs.Row.{AreOne}
 use Rattle.sift_line.specs.declared.line.ReportLine.{ReportLine}
 use Rattle.sift_line.specs.declared.line.Version.{Version}
-use Rattle.sift_judge_jobs.specs.Judge.{ReportGives, judge_duty, no_line, told}
+use Rattle.sift_judge_jobs.specs.Judge.{JudgeGives, ReportGives, no_line, told}
 use Rattle.sift_judge_jobs.specs.declared.judge.JudgeJob.{JudgeJob}
 use Rattle.sift_judge_jobs.proofs.Divisions.{one_document, one_report}
 use Rattle.sift_judge_jobs.proofs.Readings.{not_both, one_number}
@@ -28,7 +28,8 @@ for_mission verdicts version report mission one other (inr (number, first, is)) 
     is ∙ (ap no_line (one_number version report number number' first first') ∙ sym is')
 
 -- so bytes get one
-pub one_reply : OneVerdict → ((version : Version) (report : List ℕ) → OneReplyIsGiven (ReportGives version report)) → (job : JudgeJob) → GivesOne (judge_duty job)
+pub one_reply : OneVerdict → ((version : Version) (report : List ℕ) → OneReplyIsGiven (ReportGives version report))
+    → (job : JudgeJob) (bytes : List ℕ) → AreOne (JudgeGives job bytes) (JudgeGives job bytes)
 one_reply verdicts loads job bytes one other (inl (none, is)) (inl (none', is')) = is ∙ sym is'
 one_reply verdicts loads job bytes one other (inl (none, is)) (inr (document, report, divided, gives)) = absurd (none document report divided.between)
 one_reply verdicts loads job bytes one other (inr (document, report, divided, gives)) (inl (none, is)) = absurd (none document report divided.between)

@@ -4,10 +4,9 @@ use Rattle.sift_judge.specs.declared.judging.Verdict.{Verdict}
 use Rattle.sift_judge.specs.declared.judging.Verdict.TheVariants.{Yes, No}
 use Rattle.sift_load.specs.Laws.{StatusesAreOwn}
 use Rattle.sift_mission.specs.Data.{MissionData}
-use Rattle.sift_reply.specs.Duty.{HasOwnStatuses}
 use Rattle.sift_reply.specs.Reply.{Reply, done_status, shared_statuses}
 use Rattle.sift_line.specs.declared.line.Version.{Version}
-use Rattle.sift_judge_jobs.specs.Judge.{JudgeGives, ReportGives, judge_duty, judge_statuses, judged_no_status, no_line_status, told}
+use Rattle.sift_judge_jobs.specs.Judge.{JudgeGives, ReportGives, judge_statuses, judged_no_status, no_line_status, told}
 use Rattle.sift_judge_jobs.specs.declared.judge.JudgeJob.{JudgeJob}
 
 -- a reply has one of these statuses, and no shared one
@@ -32,15 +31,9 @@ of_report version report mission came (inl (lines, verdict, read, is_verdict, is
 of_report version report mission came (inr (number, first, is)) = same report_statuses came _ is ((1, lit< tt, refl), grind arith)
 
 module _ (loads : (version : Version) (report : List ℕ) → StatusesAreOwn (ReportGives version report)) where
-  of_judge : (job : JudgeJob) (bytes : List ℕ) (came : Reply) → JudgeGives job bytes came → IsOwn judge_statuses came
+  -- the replies of `judge` have its own statuses, and none that is shared
+  pub of_judge : (job : JudgeJob) (bytes : List ℕ) (came : Reply) → JudgeGives job bytes came → IsOwn judge_statuses came
   of_judge job bytes came (inl (none, is)) = same judge_statuses came _ is ((1, lit< tt, refl), grind arith)
   of_judge job bytes came (inr (document, report, divided, gives)) =
       let here = loads job.version report report_statuses (of_report job.version report) in
       (here.among document came gives, here.apart document came gives)
-
-  -- the replies of `judge` have its own statuses, and none that is shared
-  pub judge_own : (job : JudgeJob) → HasOwnStatuses (judge_duty job) judge_statuses
-  judge_own job = record {
-    among = λ bytes came gives. (of_judge job bytes came gives).0;
-    apart = λ bytes came gives. (of_judge job bytes came gives).1;
-  }

@@ -2,17 +2,17 @@
 use Rattle.std.specs.Prelude.{codes, ℕ, ◌≡◌, ◌⊎◌, List, [], ◌∷◌, Some}
 use Rattle.std.specs.Fmt.{decimal}
 use Rattle.std.specs.List.{concat}
-use Rattle.sift_jobs.specs.Run.{version_of}
+use Rattle.sift_jobs.specs.Run.{report_flag, version_of}
 use Rattle.sift_judge.specs.Verdict.{IsVerdict}
 use Rattle.sift_judge.specs.declared.judging.Verdict.{Verdict}
 use Rattle.sift_judge.specs.declared.judging.Verdict.TheVariants.{Yes, No}
 use Rattle.sift_load.specs.Loads.{LoadsThen, no_mission_statuses}
 use Rattle.sift_mission.specs.Data.{MissionData}
-use Rattle.sift_options.specs.declared.setting.Options.{Options}
-use Rattle.sift_reply.specs.Duty.{Duty}
+use Rattle.sift_options.specs.Options.{Given}
 use Rattle.sift_reply.specs.Reply.{Reply, done, done_status}
 use Rattle.sift_line.specs.declared.line.ReportLine.{ReportLine}
 use Rattle.sift_line.specs.declared.line.Version.{Version}
+use Rattle.sift_row.specs.Row.{Bytes, Row}
 use Rattle.sift_judge_jobs.specs.Divided.{AreDivided, AreUndivided}
 use Rattle.sift_judge_jobs.specs.Lines.{AreAllRead, IsFirstRefused}
 use Rattle.sift_judge_jobs.specs.declared.judge.JudgeJob.{JudgeJob}
@@ -20,7 +20,7 @@ use Rattle.sift_judge_jobs.specs.declared.judge.JudgeJob.{JudgeJob}
 -- ---- what options ask for
 
 -- the version of the report, the second where none is given
-abbrev pub judge_job_of : Options → JudgeJob
+abbrev pub judge_job_of : Given → JudgeJob
 judge_job_of options = record { version = version_of options }
 
 -- ---- replies
@@ -62,10 +62,17 @@ JudgeGives job bytes came =
 abbrev pub input_limit : ℕ
 input_limit = 8388608
 
--- what it has to do
-abbrev pub judge_duty : JudgeJob → Duty
-judge_duty job = record { limit = Some input_limit; gives = JudgeGives job }
-
 -- the statuses of its replies
 abbrev pub judge_statuses : List ℕ
 judge_statuses = done_status ∷ no_line_status ∷ judged_no_status ∷ no_mission_statuses
+
+-- its row
+abbrev pub judge_row : Row JudgeJob
+judge_row = record {
+  word = codes "judge";
+  flags = report_flag ∷ [];
+  job_of = λ options. Some (judge_job_of options);
+  does = λ job. Bytes input_limit (JudgeGives job);
+  statuses = judge_statuses;
+  by_one = λ job. job;
+}

@@ -6,7 +6,7 @@ use Rattle.sift_jobs.specs.declared.run.RunJob.{RunJob}
 use Rattle.sift_load.specs.Loads.{LoadsThen}
 use Rattle.sift_reply.specs.Reply.{Reply, done}
 use Rattle.sift_judge_jobs.specs.Divided.{AreDivided, divider}
-use Rattle.sift_judge_jobs.specs.Judge.{judge_duty}
+use Rattle.sift_judge_jobs.specs.Judge.{JudgeGives}
 use Rattle.sift_judge_jobs.specs.declared.judge.JudgeJob.{JudgeJob}
 
 -- the divider between them divides a document from a report: the document is whole lines, none of which is the divider
@@ -18,4 +18,4 @@ IsDividedThere document report = AreDivided (document ++ (divider ++ report)) do
 abbrev pub RunsAreJudgedYes : Flying → Type 0
 RunsAreJudgedYes flying = (run : RunJob) (judge : JudgeJob) (document report : List ℕ) (came : Reply) → run.version ≡ judge.version
     → LoadsThen (RunGives flying run) document (done report) → IsDividedThere document report
-    → (judge_duty judge).gives (document ++ (divider ++ report)) came → came ≡ done (codes "yes\n")
+    → JudgeGives judge (document ++ (divider ++ report)) came → came ≡ done (codes "yes\n")

@@ -1,24 +1,23 @@
 //! The command `judge`.
 
 ghost use Rattle.std.specs.Prelude.{◌≡◌, IfOk};
-ghost use Rattle.sift_judge_jobs.specs.Judge.{ReportGives, judge_job_of, no_line, told, judge_duty, judge_statuses};
+ghost use Rattle.sift_judge_jobs.specs.Judge.{ReportGives, no_line, told};
 ghost use Rattle.sift_mission.specs.Parts.{data_of};
 ghost use Rattle.sift_judge_jobs.specs.Judged.{RunsAreJudgedYes};
-ghost use Rattle.sift_judge_jobs.specs.declared.judge.JudgeJob.{JudgeJob as Judge};
-ghost use Rattle.sift_reply.specs.Duty.{GivesOne, HasOwnStatuses};
 
 use crate::lines::{Divided, divide, read_lines};
 use sift_base::{NoMemory, Stop};
-use sift_jobs::{Flier, run_is_headlined, version_of};
+use sift_jobs::{Flier, REPORT, run_is_headlined, version_of};
 use sift_judge::{Verdict, judge, lines_have_one_verdict};
 use sift_load::{
     MissionJob, begin_for_bytes, bytes_state_one_mission, loading_gives_one,
     loading_has_own_statuses,
 };
 use sift_mission::Mission;
-use sift_options::Options;
+use sift_options::{Flag, Options};
 use sift_reply::{Begun, Job, NoWork, Reply, Work};
 use sift_report::{Version, lines_come_apart, sheets_have_their_version};
+use sift_row::Command;
 use std::alloc::Global;
 
 /// The most bytes of a document, the divider and a report.
@@ -31,21 +30,11 @@ pub struct JudgeJob {
     pub version: Version,
 }
 
-impl JudgeJob {
-    /// What the options ask for: the version of the report, 2 where none is given.
-    pub fn of(options: Options) -> JudgeJob
-        ensures { result ≡ judge_job_of options }
-    {
-        JudgeJob {
-            version: version_of(options),
-        }
-    }
-}
-
 impl<M: Drop, W: Work> Job<M, W> for JudgeJob {
-    ghost use Rattle.sift_judge_jobs.specs.Judge.{judge_duty};
+    ghost use Rattle.sift_judge_jobs.specs.Judge.{judge_row};
+    ghost use Rattle.sift_row.specs.Row.{duty_of};
 
-    ghost duty = { λ means. judge_duty };
+    ghost duty = { λ means job. duty_of (judge_row.does job) };
 
     fn limit(self) -> Option<u32> {
         Some(INPUT_LIMIT)
@@ -59,6 +48,32 @@ impl<M: Drop, W: Work> Job<M, W> for JudgeJob {
             }
             None => Ok(Begun::Replied(no_line(alloc, 0)?)),
         }
+    }
+}
+
+impl<M: Drop, W: Work> Command<M, W> for JudgeJob {
+    ghost use Rattle.sift_judge_jobs.specs.Judge.{judge_row};
+
+    ghost row_of = { λ means. judge_row };
+
+    fn word() -> &'static str {
+        "judge"
+    }
+
+    fn flags() -> &'static [Flag] {
+        &[REPORT]
+    }
+
+    fn of(options: Options<'_>) -> Option<Self> {
+        Some(JudgeJob {
+            version: version_of(options),
+        })
+    }
+
+    fn keeps_its_row() {
+        loading_has_own_statuses::<(), NoWork, ReportJob<'static>>();
+        loading_gives_one::<(), NoWork, ReportJob<'static>>();
+        lines_have_one_verdict();
     }
 }
 
@@ -117,24 +132,6 @@ fn no_line(alloc: Global, number: usize) -> Result<Reply, NoMemory>
 }
 
 // ---- laws
-
-/// `judge` ends with 0, with 12 where a line is none of a report or none divides the input, with 13
-/// where the report isn't one that the mission may have, or with the status of bytes that state no
-/// mission.
-pub fn judge_has_own_statuses()
-    ensures { (job : Judge) → HasOwnStatuses (judge_duty job) judge_statuses }
-{
-    loading_has_own_statuses::<(), NoWork, ReportJob<'static>>();
-}
-
-/// `judge` gives one reply: an input is divided at one place, its report's lines are read or refused
-/// at one line, and lines have one verdict.
-pub fn judge_gives_one()
-    ensures { (job : Judge) → GivesOne (judge_duty job) }
-{
-    loading_gives_one::<(), NoWork, ReportJob<'static>>();
-    lines_have_one_verdict();
-}
 
 /// The report that `run` gives to a document is judged yes behind that document and the line that
 /// divides, in the same version: the lines that are read from it are those of the flight's sheet,

@@ -5,4 +5,4 @@
 mod judge;
 mod lines;
 
-pub use judge::{JudgeJob, judge_gives_one, judge_has_own_statuses, runs_are_judged_yes};
+pub use judge::{JudgeJob, runs_are_judged_yes};

@@ -22,12 +22,12 @@ kept_as z n is few = rw is (omega (arith, ints, few))
 -- a laboratory that is drawn from these numbers and ran gives its text
 pub drawn_text :
     DrawnRunsAreOfTheDraws → (numbers : LabNumbers) (skew error rate : ℤ) (lab : Laboratory) (first last : Drawn) (run : Run)
-    (text bytes : List ℕ) (came : Reply) → skew ≡ pos numbers.skew → error ≡ pos numbers.error → rate ≡ pos numbers.rate
+    (text : List ℕ) (came : Reply) → skew ≡ pos numbers.skew → error ≡ pos numbers.error → rate ≡ pos numbers.rate
     → lab ≡ drawn_lab numbers.n numbers.m skew error rate numbers.rounds numbers.number
     → first ≡ drawn_face numbers.n numbers.m skew error numbers.number
     → IsReady lab → Runs AllowsDrawn lab first run last → IsTextOf lab run.offsets text → came ≡ done text
-    → ClocksGives numbers bytes came
-drawn_text law numbers skew error rate lab first last run text bytes came s e r lab_is first_is ready ran tells is =
+    → ClocksGives numbers came
+drawn_text law numbers skew error rate lab first last run text came s e r lab_is first_is ready ran tells is =
     let a = numbers in
     let drawn : lab ≡ lab_of a = lab_is ∙ (λ i. drawn_lab a.n a.m (s i) (e i) (r i) a.rounds a.number) in
     let face : first ≡ drawn_face a.n a.m (pos a.skew) (pos a.error) a.number = first_is ∙ (λ i. drawn_face a.n a.m (s i) (e i) a.number) in

@@ -8,11 +8,10 @@ use Rattle.sift_byz.specs.Text.{text_of}
 use Rattle.sift_clocklab.specs.Conditions.{IsAdmitted, IsRefused}
 use Rattle.sift_clocklab.specs.Text.{OneTextOfARun}
 use Rattle.sift_load.specs.Loads.{IsDocument}
-use Rattle.sift_reply.specs.Duty.{GivesOne}
 use Rattle.sift_reply.specs.Reply.{Reply, done}
-use Rattle.sift_lab_jobs.specs.Byz.{ByzGivesFor, broken_rule, byz_duty}
-use Rattle.sift_lab_jobs.specs.Clocks.{LabNumbers, clocks_duty, lab_of, run_of}
-use Rattle.sift_lab_jobs.specs.declared.labs.ByzJob.{ByzJob}
+use Rattle.sift_row.specs.Row.{AreOne}
+use Rattle.sift_lab_jobs.specs.Byz.{ByzGives, ByzGivesFor, broken_rule}
+use Rattle.sift_lab_jobs.specs.Clocks.{ClocksGives, LabNumbers, lab_of, run_of}
 
 -- ---- `byz`
 
@@ -31,13 +30,13 @@ module _ (one_plan : OnePlan) (accepted : PlansAreAccepted) (one_refusal : OneRe
       is ∙ (ap broken_rule (one_refusal document broken broken' breaks breaks') ∙ sym is')
 
   -- and so do bytes
-  pub one_byz : (job : ByzJob) → GivesOne (byz_duty job)
-  one_byz job bytes one other (inl (document, read, gives)) (inl (document', read', gives')) =
+  pub one_byz : (bytes : List ℕ) → AreOne (ByzGives bytes) (ByzGives bytes)
+  one_byz bytes one other (inl (document, read, gives)) (inl (document', read', gives')) =
       for_document document' one other
       (subst (λ (tree : Members). ByzGivesFor tree one) (one_tree bytes document document' read read') gives) gives'
-  one_byz job bytes one other (inl (document, read, gives)) (inr (none, is)) = absurd (none document read)
-  one_byz job bytes one other (inr (none, is)) (inl (document, read, gives)) = absurd (none document read)
-  one_byz job bytes one other (inr (none, is)) (inr (none', is')) = is ∙ sym is'
+  one_byz bytes one other (inl (document, read, gives)) (inr (none, is)) = absurd (none document read)
+  one_byz bytes one other (inr (none, is)) (inl (document, read, gives)) = absurd (none document read)
+  one_byz bytes one other (inr (none, is)) (inr (none', is')) = is ∙ sym is'
 
 -- ---- `clocks`
 
@@ -47,11 +46,11 @@ unrefused n m skew error rate admitted (inl few) = omega (arith, few, admitted.e
 unrefused n m skew error rate admitted (inr tight) = omega (arith, ints, tight, admitted.room)
 
 -- `clocks` gives at most one reply to an input
-pub one_clocks : OneTextOfARun → (lab : LabNumbers) → GivesOne (clocks_duty lab)
-one_clocks one_text lab bytes one other (inl (text, admitted, tells, is)) (inl (text', admitted', tells', is')) =
+pub one_clocks : OneTextOfARun → (lab : LabNumbers) → AreOne (ClocksGives lab) (ClocksGives lab)
+one_clocks one_text lab one other (inl (text, admitted, tells, is)) (inl (text', admitted', tells', is')) =
     is ∙ (ap done (one_text (lab_of lab) (run_of lab).offsets text text' tells tells') ∙ sym is')
-one_clocks one_text lab bytes one other (inl (text, admitted, tells, is)) (inr (refused, is')) =
+one_clocks one_text lab one other (inl (text, admitted, tells, is)) (inr (refused, is')) =
     absurd (unrefused _ _ _ _ _ admitted refused)
-one_clocks one_text lab bytes one other (inr (refused, is)) (inl (text, admitted, tells, is')) =
+one_clocks one_text lab one other (inr (refused, is)) (inl (text, admitted, tells, is')) =
     absurd (unrefused _ _ _ _ _ admitted refused)
-one_clocks one_text lab bytes one other (inr (refused, is)) (inr (refused', is')) = is ∙ sym is'
+one_clocks one_text lab one other (inr (refused, is)) (inr (refused', is')) = is ∙ sym is'

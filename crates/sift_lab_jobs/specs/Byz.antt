@@ -9,8 +9,8 @@ use Rattle.sift_byz.specs.Plan.{PlanData}
 use Rattle.sift_byz.specs.Text.{text_of}
 use Rattle.sift_load.specs.Loads.{document_limit, IsDocument, StatesNone, reply_to}
 use Rattle.sift_load.specs.declared.loading.NoMission.TheVariants.{NotADocument}
-use Rattle.sift_reply.specs.Duty.{Duty}
 use Rattle.sift_reply.specs.Reply.{Reply, done, done_status}
+use Rattle.sift_row.specs.Row.{Bytes, Row}
 use Rattle.sift_lab_jobs.specs.declared.labs.ByzJob.{ByzJob}
 
 -- the reply to a document that breaks this rule first
@@ -30,10 +30,17 @@ ByzGives bytes came =
     ((document : Members) × IsDocument bytes document × ByzGivesFor document came)
     ⊎ (StatesNone bytes NotADocument × (came ≡ reply_to NotADocument))
 
--- what it has to do
-abbrev pub byz_duty : ByzJob → Duty
-byz_duty job = record { limit = Some document_limit; gives = ByzGives }
-
 -- the statuses of its replies
 abbrev pub byz_statuses : List ℕ
 byz_statuses = done_status ∷ 3 ∷ 16 ∷ []
+
+-- its row
+abbrev pub byz_row : Row ByzJob
+byz_row = record {
+  word = codes "byz";
+  flags = [];
+  job_of = λ options. Some (record {});
+  does = λ job. Bytes document_limit ByzGives;
+  statuses = byz_statuses;
+  by_one = λ job. job;
+}

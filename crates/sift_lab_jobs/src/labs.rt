@@ -1,12 +1,10 @@
 //! The commands about laboratories: `byz` and `clocks`.
 
-ghost use Rattle.std.specs.Prelude.{◌≡◌, IfOk, []};
-ghost use Rattle.sift_lab_jobs.specs.Byz.{ByzGives, ByzGivesFor, broken_rule, byz_duty, byz_statuses};
+ghost use Rattle.std.specs.Prelude.{◌≡◌, IfOk};
+ghost use Rattle.sift_lab_jobs.specs.Byz.{ByzGives, ByzGivesFor, broken_rule};
 ghost use Rattle.toml.specs.View.{table_view};
-ghost use Rattle.sift_lab_jobs.specs.Clocks.{ClocksGives, clocks_job_of, LabNumbers, clocks_duty, clocks_statuses};
+ghost use Rattle.sift_lab_jobs.specs.Clocks.{ClocksGives};
 ghost use Rattle.sift_lab_jobs.specs.Shown.{NoSkewIsOverTheBound, StatedPlansAgree};
-ghost use Rattle.sift_lab_jobs.specs.declared.labs.ByzJob.{ByzJob as Byz};
-ghost use Rattle.sift_reply.specs.Duty.{GivesOne, HasOwnStatuses};
 
 use sift_base::{NoMemory, Stop};
 use sift_byz::{
@@ -19,8 +17,9 @@ use sift_clocklab::{
 };
 use sift_document::BrokenRule;
 use sift_load::{DOCUMENT_LIMIT, read_document};
-use sift_options::{Options, within};
+use sift_options::{Flag, Numbers, Options, within};
 use sift_reply::{Begun, Job, Reply, Work};
+use sift_row::Command;
 use std::alloc::Global;
 use std::marker::Model;
 use toml::Table;
@@ -32,9 +31,10 @@ use toml::Table;
 pub struct ByzJob;
 
 impl<M: Drop, W: Work> Job<M, W> for ByzJob {
-    ghost use Rattle.sift_lab_jobs.specs.Byz.{byz_duty};
+    ghost use Rattle.sift_lab_jobs.specs.Byz.{byz_row};
+    ghost use Rattle.sift_row.specs.Row.{duty_of};
 
-    ghost duty = { λ means. byz_duty };
+    ghost duty = { λ means job. duty_of (byz_row.does job) };
 
     fn limit(self) -> Option<u32> {
         Some(DOCUMENT_LIMIT)
@@ -42,6 +42,30 @@ impl<M: Drop, W: Work> Job<M, W> for ByzJob {
 
     fn begin(self, alloc: Global, _means: M, bytes: &[u8]) -> Result<Begun<W>, NoMemory> {
         Ok(Begun::Replied(reply_to(alloc, bytes)?))
+    }
+}
+
+impl<M: Drop, W: Work> Command<M, W> for ByzJob {
+    ghost use Rattle.sift_lab_jobs.specs.Byz.{byz_row};
+
+    ghost row_of = { λ means. byz_row };
+
+    fn word() -> &'static str {
+        "byz"
+    }
+
+    fn flags() -> &'static [Flag] {
+        &[]
+    }
+
+    fn of(_options: Options<'_>) -> Option<Self> {
+        Some(ByzJob)
+    }
+
+    fn keeps_its_row() {
+        one_plan();
+        plans_are_accepted();
+        one_refusal();
     }
 }
 
@@ -110,32 +134,52 @@ impl Model for ClocksJob {
     ghost inverse = { λ lab. record { n = lab.n; m = lab.m; skew = lab.skew; error = lab.error; rate = lab.rate; rounds = lab.rounds; number = lab.number } };
 }
 
-impl ClocksJob {
-    /// What the options ask for: each of the seven has to be given, in its range.
-    pub fn of(options: Options) -> Option<ClocksJob>
-        ensures { result ≡ clocks_job_of options }
-    {
-        let n = within(options.n, 1, 32)? as u8;
-        let m = within(options.m, 0, 10)? as u8;
-        let skew = within(options.skew, 0, 8_000)? as u16;
-        let error = within(options.error, 0, 8_000)? as u16;
-        let rate = within(options.rate, 0, 8_000)? as u16;
-        let rounds = within(options.rounds, 1, 1_000)? as u32;
-        let number = options.number?;
-        Some(ClocksJob {
-            n,
-            m,
-            skew,
-            error,
-            rate,
-            rounds,
-            number,
-        })
-    }
+/// How many clocks there are.
+const N: Flag = Flag {
+    name: "--n",
+    numbers: Numbers::Any,
+};
 
+/// How many of them are faulty.
+const M: Flag = Flag {
+    name: "--m",
+    numbers: Numbers::Any,
+};
+
+/// How far apart working clocks may be.
+const SKEW: Flag = Flag {
+    name: "--skew",
+    numbers: Numbers::Any,
+};
+
+/// By how much a clock may be misread.
+const ERROR: Flag = Flag {
+    name: "--error",
+    numbers: Numbers::Any,
+};
+
+/// By how much a clock may drift in a round.
+const RATE: Flag = Flag {
+    name: "--rate",
+    numbers: Numbers::Any,
+};
+
+/// How many rounds they run.
+const ROUNDS: Flag = Flag {
+    name: "--rounds",
+    numbers: Numbers::Any,
+};
+
+/// From which number all else is drawn.
+const NUMBER: Flag = Flag {
+    name: "--number",
+    numbers: Numbers::Any,
+};
+
+impl ClocksJob {
     /// The reply: the text of the run that is drawn, or that its laboratory isn't admitted.
     fn reply(self, alloc: Global) -> Result<Reply, NoMemory>
-        ensures { IfOk result (ClocksGives self []) }
+        ensures { IfOk result (ClocksGives self) }
     {
         drawn_runs_are_of_the_draws();
         let (skew, error, rate) = (self.skew.into(), self.error.into(), self.rate.into());
@@ -160,9 +204,10 @@ impl ClocksJob {
 }
 
 impl<M: Drop, W: Work> Job<M, W> for ClocksJob {
-    ghost use Rattle.sift_lab_jobs.specs.Clocks.{clocks_duty};
+    ghost use Rattle.sift_lab_jobs.specs.Clocks.{clocks_row};
+    ghost use Rattle.sift_row.specs.Row.{duty_of};
 
-    ghost duty = { λ means. clocks_duty };
+    ghost duty = { λ means job. duty_of (clocks_row.does job) };
 
     fn limit(self) -> Option<u32> {
         None
@@ -173,33 +218,44 @@ impl<M: Drop, W: Work> Job<M, W> for ClocksJob {
     }
 }
 
+impl<T: Drop, W: Work> Command<T, W> for ClocksJob {
+    ghost use Rattle.sift_lab_jobs.specs.Clocks.{clocks_row};
+
+    ghost row_of = { λ means. clocks_row };
+
+    fn word() -> &'static str {
+        "clocks"
+    }
+
+    fn flags() -> &'static [Flag] {
+        &[N, M, SKEW, ERROR, RATE, ROUNDS, NUMBER]
+    }
+
+    fn of(options: Options<'_>) -> Option<Self> {
+        let n = within(options.number(N), 1, 32)? as u8;
+        let m = within(options.number(M), 0, 10)? as u8;
+        let skew = within(options.number(SKEW), 0, 8_000)? as u16;
+        let error = within(options.number(ERROR), 0, 8_000)? as u16;
+        let rate = within(options.number(RATE), 0, 8_000)? as u16;
+        let rounds = within(options.number(ROUNDS), 1, 1_000)? as u32;
+        let number = options.number(NUMBER)?;
+        Some(ClocksJob {
+            n,
+            m,
+            skew,
+            error,
+            rate,
+            rounds,
+            number,
+        })
+    }
+
+    fn keeps_its_row() {
+        one_text_of_a_run();
+    }
+}
+
 // ---- laws
-
-/// `byz` ends with 0, with 3 where its input is no document, or with 16 where that breaks a rule.
-pub fn byz_has_own_statuses()
-    ensures { (job : Byz) → HasOwnStatuses (byz_duty job) byz_statuses }
-{}
-
-/// `clocks` ends with 0, or with 17 where the laboratory isn't admitted.
-pub fn clocks_have_own_statuses()
-    ensures { (job : LabNumbers) → HasOwnStatuses (clocks_duty job) clocks_statuses }
-{}
-
-/// `byz` gives one reply to an input: a document states one plan, or is refused in one way.
-pub fn byz_gives_one()
-    ensures { (job : Byz) → GivesOne (byz_duty job) }
-{
-    one_plan();
-    plans_are_accepted();
-    one_refusal();
-}
-
-/// `clocks` gives one reply: numbers are drawn in one way, and a run has one text.
-pub fn clocks_give_one()
-    ensures { (job : LabNumbers) → GivesOne (clocks_duty job) }
-{
-    one_text_of_a_run();
-}
 
 /// Of each plan that an input states, `byz` tells one vector for all loyal units, and in it the value of each.
 pub fn stated_plans_agree()

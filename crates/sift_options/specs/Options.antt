@@ -1,51 +1,78 @@
 -- The options of a command: how words give them.
-use Rattle.std.specs.Prelude.{codes, ℕ, ◌≡◌, ◌≢◌, ◌≤◌, ◌<◌, ◌+◌, ◌^◌, List, [], ◌∷◌, ◌++◌, ◌⊎◌, ◌&&◌, nat_le, if◌then◌else◌, length, Contains, Option, Some, None}
+use Rattle.std.specs.Prelude.{codes, ℕ, ◌≡◌, ◌≤◌, ◌<◌, ◌==◌, ◌^◌, List, [], ◌∷◌, ◌&&◌, nat_le, nat_lt, bytes_eq, Bool, if◌then◌else◌, length, Contains, Option, Some, None, map, string_bytes, ⊤, option_map}
+use Rattle.std.specs.Option.{option_and_then}
+use Rattle.std.specs.Char.{digit_value}
 use Rattle.std.specs.Str.Parse.{AllDigits, digits_value}
+use Rattle.std.specs.List.{after_first, before_first, list_all, position_or_len}
 use Rattle.sift_options.specs.declared.setting.Flag.{Flag}
-use Rattle.sift_options.specs.declared.setting.Flag.TheVariants.{Workers, Order, Report, Number, N, M, Skew, Error, Rate, Rounds, Copies, Subframes, Bus, From, Value}
+use Rattle.sift_options.specs.declared.setting.Numbers.{Numbers}
+use Rattle.sift_options.specs.declared.setting.Numbers.TheVariants.{Digit, Any}
 use Rattle.sift_options.specs.declared.setting.Options.{Options}
 
--- ---- one option
+-- ---- an option that a command may have
 
--- an option: its name, and where its number stands among the options of a command
-abbrev pub option_of : Flag → List ℕ × (Options → Option ℕ)
-option_of Workers = (codes "--workers", λ options. options.workers)
-option_of Order = (codes "--order", λ options. options.order)
-option_of Report = (codes "--report", λ options. options.report)
-option_of Number = (codes "--number", λ options. options.number)
-option_of N = (codes "--n", λ options. options.n)
-option_of M = (codes "--m", λ options. options.m)
-option_of Skew = (codes "--skew", λ options. options.skew)
-option_of Error = (codes "--error", λ options. options.error)
-option_of Rate = (codes "--rate", λ options. options.rate)
-option_of Rounds = (codes "--rounds", λ options. options.rounds)
-option_of Copies = (codes "--copies", λ options. options.copies)
-option_of Subframes = (codes "--subframes", λ options. options.subframes)
-option_of Bus = (codes "--bus", λ options. options.bus)
-option_of From = (codes "--from", λ options. options.from)
-option_of Value = (codes "--value", λ options. options.value)
+-- its name, and which numbers it may have
+pub record Allowed : Type 0 where
+  pub name : List ℕ
+  pub numbers : Numbers
 
--- the name of an option
-abbrev pub name_of : Flag → List ℕ
-name_of flag = (option_of flag).0
+-- one with so many numbers, each of one digit; and one with any
+abbrev pub digits_to : (limit : ℕ) → (name : List ℕ) → Allowed
+digits_to limit name = record { name = name; numbers = Digit limit }
 
--- the most workers
-abbrev pub worker_limit : ℕ
-worker_limit = 8
+abbrev pub any_number : (name : List ℕ) → Allowed
+any_number name = record { name = name; numbers = Any }
 
--- the last version of reports
-abbrev pub version_limit : ℕ
-version_limit = 2
+-- the one that stands in the code
+abbrev pub allowed_by : Flag → Allowed
+allowed_by flag = record { name = flag.name.now; numbers = flag.numbers }
+
+-- ---- the options in words
+
+-- a name, and the text of the value
+pub record Setting : Type 0 where
+  pub name : List ℕ
+  pub value : List ℕ
+
+-- the byte is the sign between them, where both are one word
+abbrev pub is_sign : ℕ → Bool
+is_sign byte = byte == 61
+
+-- the sign is in the word
+abbrev pub is_signed : List ℕ → Bool
+is_signed word = nat_lt (position_or_len is_sign word) (length word)
+
+-- the options that words give, in their order, where this name stands before them without its value: each is one word, or two. A value that
+-- isn't there is empty, which is no number
+abbrev pub settings_behind : Option (List ℕ) → List (List ℕ) → List Setting
+settings_behind None [] = []
+settings_behind (Some name) [] = record { name = name; value = [] } ∷ []
+settings_behind (Some name) (value ∷ words) = record { name = name; value = value } ∷ settings_behind None words
+settings_behind None (word ∷ words) =
+    if is_signed word then record { name = before_first is_sign word; value = after_first is_sign word } ∷ settings_behind None words
+    else settings_behind (Some word) words
+
+-- and where none does
+abbrev pub settings : List (List ℕ) → List Setting
+settings words = settings_behind None words
+
+-- the value of the first with this name
+abbrev pub value_in : List Setting → (name : List ℕ) → Option (List ℕ)
+value_in [] name = None
+value_in (setting ∷ others) name = if bytes_eq setting.name name then Some setting.value else value_in others name
+
+-- ---- their numbers
 
 -- the most digits of a number
 abbrev pub digit_limit : ℕ
 digit_limit = 20
 
--- the text is one digit, from 1 to this limit
-abbrev pub IsDigitTo : (limit : ℕ) → List ℕ → ℕ → Type 0
-IsDigitTo limit text n = (text ≡ (48 + n) ∷ []) × (1 ≤ n) × (n ≤ limit)
+-- the text is a number in decimal digits, of which the first ones may be 0
+abbrev pub is_number : List ℕ → Bool
+is_number text = list_all (λ c. nat_lt (digit_value c) 10) text && nat_le 1 (length text) && nat_le (length text) digit_limit
+    && nat_lt (digits_value 10 text) (2 ^ 64)
 
--- the text is the number in decimal digits, of which the first ones may be 0
+-- the text is this number in decimal digits, of which the first ones may be 0
 pub record IsNumber (text : List ℕ) (n : ℕ) : Type 0 where
   pub digits : AllDigits 10 text
   pub some : 1 ≤ length text
@@ -53,42 +80,53 @@ pub record IsNumber (text : List ℕ) (n : ℕ) : Type 0 where
   pub value : digits_value 10 text ≡ n
   pub low : n < 2 ^ 64
 
--- the text begins with a digit
+-- it begins with a digit
 abbrev pub BeginsWithDigit : List ℕ → Type 0
 BeginsWithDigit [] = ⊥
 BeginsWithDigit (c ∷ cs) = (48 ≤ c) × (c ≤ 57)
 
--- the text is a value of an option: a count of workers, a version of reports, or a number, which each other option has
-abbrev pub IsValue : Flag → List ℕ → ℕ → Type 0
-IsValue Workers text n = IsDigitTo worker_limit text n
-IsValue Report text n = IsDigitTo version_limit text n
-IsValue other text n = IsNumber text n
+-- the number that it is
+abbrev pub number_of : (text : List ℕ) → Option ℕ
+number_of text = if is_number text then Some (digits_value 10 text) else None
 
--- ---- options
+-- the number of each option by its name, where it is given
+abbrev pub Given : Type 0
+Given = List ℕ → Option ℕ
 
--- the number of an option, where it is given
-abbrev pub given : Options → Flag → Option ℕ
-given options flag = (option_of flag).1 options
+-- those that words give
+abbrev pub numbers_in : (words : List (List ℕ)) → Given
+numbers_in words name = option_and_then number_of (value_in (settings words) name)
 
--- an option that wasn't given has the number that the text says, and each other option stays as it was
-abbrev pub Sets : Options → Flag → (value : List ℕ) → (after : Options) → Type 0
-Sets options flag value after = (n : ℕ) × IsValue flag value n × (given options flag ≡ None) × (given after flag ≡ Some n)
-    × ((other : Flag) → other ≢ flag → given after other ≡ given options other)
+-- those of options in the code
+abbrev pub given_by : Options → Given
+given_by options = numbers_in (map string_bytes options.words.now)
 
--- the words begin with one of these options and its value, in two words or in one with an equality sign, and these are the words behind it
-abbrev pub BeginWith : List Flag → (words : List (List ℕ)) → Flag → (value : List ℕ) → (rest : List (List ℕ)) → Type 0
-BeginWith flags words flag value rest =
-    Contains flags flag × ((words ≡ name_of flag ∷ value ∷ rest) ⊎ (words ≡ (name_of flag ++ codes "=" ++ value) ∷ rest))
+-- ---- words that are options of a command
 
--- the words give options beside those that stand already, each one of these flags, and none of them a second time
-pub data Adds (flags : List Flag) : Options → List (List ℕ) → Options → Type 0 where
-  none : (options : Options) → Adds flags options [] options
-  more : (options after all : Options) (flag : Flag) (value : List ℕ) (words rest : List (List ℕ)) →
-      BeginWith flags words flag value rest → Sets options flag value after → Adds flags after rest all → Adds flags options words all
+-- an option may have this number, with this text: one digit, from 1 to a limit, or any
+abbrev pub MayBe : Numbers → (text : List ℕ) → ℕ → Type 0
+MayBe (Digit limit) text n = (length text ≡ 1) × (1 ≤ n) × (n ≤ limit)
+MayBe Any text n = ⊤
 
--- the words give these options: they add them where none was given
-abbrev pub Give : List Flag → (words : List (List ℕ)) → Options → Type 0
-Give flags words options = (none : Options) × ((flag : Flag) → given none flag ≡ None) × Adds flags none words options
+-- it is this one, with a number that it may have
+pub record IsAllowed (setting : Setting) (flag : Allowed) : Type 0 where
+  pub named : flag.name ≡ setting.name
+  pub number : ℕ
+  pub is : number_of setting.value ≡ Some number
+  pub may : MayBe flag.numbers setting.value number
+
+-- it is one of these
+abbrev pub IsOneOf : List Allowed → Setting → Type 0
+IsOneOf flags setting = (flag : Allowed) × Contains flags flag × IsAllowed setting flag
+
+-- so is each, and none stands twice
+abbrev pub AreAmong : List Allowed → List Setting → Type 0
+AreAmong flags [] = ⊤
+AreAmong flags (setting ∷ others) = IsOneOf flags setting × (value_in others setting.name ≡ None) × AreAmong flags others
+
+-- the words are options, each one of these and at most once
+abbrev pub AreOptions : List Allowed → (words : List (List ℕ)) → Type 0
+AreOptions flags words = AreAmong flags (settings words)
 
 -- ---- ranges
 

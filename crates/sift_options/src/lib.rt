@@ -3,4 +3,4 @@
 
 mod setting;
 
-pub use setting::{Flag, Options, one_list_of_options, within};
+pub use setting::{Flag, Numbers, Options, are_options, within};

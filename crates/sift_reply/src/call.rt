@@ -25,18 +25,18 @@ pub fn answer<
     K: Sink,
     D: Fn(W) -> Result<String, NoMemory>,
 >(alloc: Global, means: M, words: &[String], source: &mut S, sink: &mut K, do_work: &D) -> u8
-    requires own { ShareNoStatus (record { asks = C.asks; duty = C.duty means }) }
+    requires own { ShareNoStatus (record { asks = C.asks means; duty = C.duty means }) }
     requires callable { (work : W) → D.pre do_work.now work }
     requires done { (work : W) (came : _) → D.post do_work.now work came → IfOk came (λ text. W.gives work (string_bytes text)) }
-    ensures answered { IsAnswered (record { asks = C.asks; duty = C.duty means }) (map string_bytes words.now)
+    ensures answered { IsAnswered (record { asks = C.asks means; duty = C.duty means }) (map string_bytes words.now)
         (record { before = S.inflow source.old; after = S.inflow source.new })
         (record { before = K.outflow sink.old; after = K.outflow sink.new }) result }
-    ensures certain { IsCertain (record { asks = C.asks; duty = C.duty means }) (map string_bytes words.now)
+    ensures certain { IsCertain (record { asks = C.asks means; duty = C.duty means }) (map string_bytes words.now)
         (record { before = S.inflow source.old; after = S.inflow source.new })
         (record { before = K.outflow sink.old; after = K.outflow sink.new }) result }
 
     // Only a job that reads it reads the source, and want of memory writes nothing.
-    ensures unread { AskForNoInput (record { asks = C.asks; duty = C.duty means }) (map string_bytes words.now) → source.new ≡ source.old }
+    ensures unread { AskForNoInput (record { asks = C.asks means; duty = C.duty means }) (map string_bytes words.now) → source.new ≡ source.old }
     ensures unwritten { result ≡ no_memory_status → sink.new ≡ sink.old }
 {
     match owed::<M, W, C, S, D>(alloc, means, words, source, do_work) {
@@ -53,15 +53,15 @@ fn owed<M: Drop, W: Work, C: Asked<M, W>, S: Source, D: Fn(W) -> Result<String, 
     source: &mut S,
     do_work: &D,
 ) -> Result<Reply, NoMemory>
-    requires own { ShareNoStatus (record { asks = C.asks; duty = C.duty means }) }
+    requires own { ShareNoStatus (record { asks = C.asks means; duty = C.duty means }) }
     requires callable { (work : W) → D.pre do_work.now work }
     requires done { (work : W) (came : _) → D.post do_work.now work came → IfOk came (λ text. W.gives work (string_bytes text)) }
-    ensures owed { IfOk result (IsOwed (record { asks = C.asks; duty = C.duty means }) (map string_bytes words.now)
+    ensures owed { IfOk result (IsOwed (record { asks = C.asks means; duty = C.duty means }) (map string_bytes words.now)
         (λ duty. Owes duty (record { before = S.inflow source.old; after = S.inflow source.new }))) }
-    ensures wanting { IfErr result (λ _. MayWant (record { asks = C.asks; duty = C.duty means }) (map string_bytes words.now)
+    ensures wanting { IfErr result (λ _. MayWant (record { asks = C.asks means; duty = C.duty means }) (map string_bytes words.now)
         (record { before = S.inflow source.old; after = S.inflow source.new })) }
     ensures other { IfOk result (λ reply. reply.status ≢ no_memory_status) }
-    ensures unread { AskForNoInput (record { asks = C.asks; duty = C.duty means }) (map string_bytes words.now) → source.new ≡ source.old }
+    ensures unread { AskForNoInput (record { asks = C.asks means; duty = C.duty means }) (map string_bytes words.now) → source.new ≡ source.old }
 {
     match C::from_words(words) {
         Some(job) => owed_by(alloc, means, job, source, do_work),

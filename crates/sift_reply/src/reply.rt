@@ -130,20 +130,20 @@ pub trait Job<M, W: Work>: Copy {
 
 /// A job that words may ask for.
 pub trait Asked<M, W: Work>: Job<M, W> {
-    /// The words ask for this one.
-    ghost asks: { List (List ℕ) → Self → Type 0 };
+    /// The words ask for this one, by such means.
+    ghost asks: { M → List (List ℕ) → Self → Type 0 };
 
     /// What the words ask for, where they are a command line.
     fn from_words(words: &[String]) -> Option<Self>
-        ensures found { IfSome result (asks (map string_bytes words.now)) }
-        ensures none { IfNone result ((job : Self) → ¬ asks (map string_bytes words.now) job) };
+        ensures found { (means : M) → IfSome result (asks means (map string_bytes words.now)) }
+        ensures none { (means : M) → IfNone result ((job : Self) → ¬ asks means (map string_bytes words.now) job) };
 }
 
 // ---- laws
 
 /// What each status says, whatever the commands and their means are.
 pub fn statuses_are_explained<M, W: Work, C: Asked<M, W>>()
-    ensures { (means : M) → StatusesAreExplained (record { asks = C.asks; duty = C.duty means }) }
+    ensures { (means : M) → StatusesAreExplained (record { asks = C.asks means; duty = C.duty means }) }
 {}
 
 /// A job that gives one reply to an input owes one to its bytes. The input of a job that reads nothing is empty.

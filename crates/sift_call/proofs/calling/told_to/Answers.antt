@@ -1,8 +1,9 @@
 use Rattle.std.proofs.Common.{◌≡◌, ◌∙◌, ℕ, List, Some, ap, drop, map, refl, string_bytes, subst}
 use Rattle.sift_alone.specs.Flown.{flying_with}
 use Rattle.sift_alone.specs.Given.{resting_storms}
-use Rattle.sift_commands.specs.Statuses.{CommandsHaveOwnStatuses}
+use Rattle.sift_commands.specs.Command.{program}
 use Rattle.sift_io.specs.Sure.{sure_inflow}
+use Rattle.sift_row.specs.Laws.{AreKept}
 use Rattle.sift_rogue.specs.Rogues.{AllowsDrawn}
 use Rattle.sift_rogue.specs.declared.storm.Storm.{Storm}
 use Rattle.sift_call.proofs.Statuses.{known}
@@ -31,5 +32,5 @@ returns-clause-told c =
 
 pub returns-clause-known : goal.returns-clause-known
 returns-clause-known c =
-    let own = subst (λ (them : List Storm). CommandsHaveOwnStatuses (flying_with AllowsDrawn them)) (resting c) (c.commands_have_own_statuses.ensures.own c.of-fleet.result) in
-    (known own (map string_bytes c.args.words.now) _ c.sift_alone-status.result _ (is_told c _ refl), c.if-status-eq-NO_MEMORY_STATUS.false)
+    let kept = subst (λ (them : List Storm). AreKept (program (flying_with AllowsDrawn them)).rows) (resting c) (c.commands_are_kept.ensures c.of-fleet.result) in
+    (known kept (map string_bytes c.args.words.now) _ c.sift_alone-status.result _ (is_told c _ refl), c.if-status-eq-NO_MEMORY_STATUS.false)

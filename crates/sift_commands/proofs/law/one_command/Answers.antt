@@ -1,5 +1,6 @@
-use Rattle.sift_commands.proofs.One.{one_command}
+use Rattle.std.proofs.Common.{refl}
 use Rattle.sift_commands.proofs.law.one_command.Goals as goal
 
+-- the words of the list differ
 pub returns : goal.returns
-returns c = one_command c.one_list_of_options.ensures.alone
+returns g c = λ flier. (c.commands_are_kept.ensures flier).asks refl

@@ -4,5 +4,5 @@ use Rattle.sift_commands.proofs.law.the_caught_are_written.Goals as goal
 
 pub returns : goal.returns
 returns g c = λ flier.
-    report_is_written (g.F.Flier.flying flier) ReportCaught c.one_command.ensures (c.commands_have_own_statuses.ensures.apart flier)
+    report_is_written (g.F.Flier.flying flier) ReportCaught (c.one_command.ensures flier) (c.commands_have_own_statuses.ensures.apart flier)
     (c.statuses_are_explained.ensures flier) (c.run_tells_caught.ensures flier)

@@ -1,7 +1,0 @@
-use Rattle.std.proofs.Common.{[], ◌∷◌}
-use Rattle.sift_reply.specs.Reply.{done_status}
-use Rattle.sift_jobs.proofs.Statuses.{done_is_own}
-use Rattle.sift_jobs.proofs.law.votes_has_own_statuses.Goals as goal
-
-pub returns : goal.returns
-returns g c = λ flier job. c.loading_has_own_statuses.ensures flier job (done_status ∷ []) (λ mission reply gives. done_is_own reply _ gives.2)

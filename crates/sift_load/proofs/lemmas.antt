@@ -1,0 +1,2 @@
+-- What the proofs of crates above may cite.
+pub mod Loading

@@ -1,2 +1,0 @@
--- What the proofs of crates above may cite.
-pub mod Words

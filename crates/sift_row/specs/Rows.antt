@@ -1,0 +1,86 @@
+-- The commands of a list of rows.
+use Rattle.std.specs.Prelude.{ℕ, ◌≡◌, List, [], ◌∷◌, ◌++◌, ◌&&◌, Bool, true, not, bytes_eq}
+use Rattle.std.specs.List.{list_any}
+use Rattle.sift_flight.specs.Flight.{HasNoStorms}
+use Rattle.sift_load.specs.Loads.{States}
+use Rattle.sift_mission.specs.Data.{MissionData}
+use Rattle.sift_mission.specs.Flown.{flown}
+use Rattle.sift_reply.specs.Duty.{Duty}
+use Rattle.sift_reply.specs.Promise.{Commands}
+use Rattle.sift_row.specs.Row.{Asks, Reads, Row, duty_of}
+use Rattle.sift_row.specs.declared.list.NoCommand.{NoCommand}
+use Rattle.sift_row.specs.declared.list.Or.{Or}
+use Rattle.sift_row.specs.declared.list.Or.TheVariants.{This, Other}
+
+-- ---- the commands of several rows
+
+-- by one function for the jobs of a row, and by another for the commands of the later ones
+abbrev pub by_case {ℓ} : {A B : Type 0} {C : Type ℓ} → (A → C) → (B → C) → Or A B → C
+by_case this other (This job) = this job
+by_case this other (Other command) = other command
+
+-- the words of the commands; which words ask for one; what it has to do, by what it reads; the statuses of that, and of all; and
+-- the command by one worker
+pub record Rows (Command : Type 0) : Type 1 where
+  pub words : List (List ℕ)
+  pub asks : List (List ℕ) → Command → Type 0
+  pub duty : Command → Duty
+  pub does : Command → Reads
+  pub statuses : Command → List ℕ
+  pub all_statuses : List ℕ
+  pub by_one : Command → Command
+
+-- a row before others: a command is one of its jobs, or of theirs
+abbrev pub with_row : {Job Command : Type 0} → Row Job → Rows Command → Rows (Or Job Command)
+with_row row others = record {
+  words = row.word ∷ others.words;
+  asks = λ words. by_case (Asks row words) (others.asks words);
+  duty = by_case (λ job. duty_of (row.does job)) others.duty;
+  does = by_case row.does others.does;
+  statuses = by_case (λ job. row.statuses) others.statuses;
+  all_statuses = row.statuses ++ others.all_statuses;
+  by_one = by_case (λ job. This (row.by_one job)) (λ command. Other (others.by_one command));
+}
+
+-- no row
+abbrev pub no_rows : Rows NoCommand
+no_rows = record {
+  words = [];
+  asks = λ words command. elim command [ ];
+  duty = λ command. elim command [ ];
+  does = λ command. elim command [ ];
+  statuses = λ command. elim command [ ];
+  all_statuses = [];
+  by_one = λ command. command;
+}
+
+-- rows, whatever their commands are
+pub record Listed : Type 1 where
+  pub Command : Type 0
+  pub rows : Rows Command
+
+-- a row before others that are listed
+infixr 50 ◌⊕◌
+abbrev pub ◌⊕◌ : {Job : Type 0} → Row Job → Listed → Listed
+row ⊕ others = record { Command = Or _ others.Command; rows = with_row row others.rows }
+
+-- nothing is listed
+abbrev pub end : Listed
+end = record { Command = NoCommand; rows = no_rows }
+
+-- what is promised of the commands of rows
+abbrev pub commands_of : {Command : Type 0} → Rows Command → Commands Command
+commands_of rows = record { asks = rows.asks; duty = rows.duty }
+
+-- the word is among these
+abbrev pub is_among : (words : List (List ℕ)) → (word : List ℕ) → Bool
+is_among words word = list_any (bytes_eq word) words
+
+-- the words all differ
+abbrev pub all_differ : List (List ℕ) → Bool
+all_differ [] = true
+all_differ (word ∷ words) = not (is_among words word) && all_differ words
+
+-- no mission that the bytes state has a storm
+abbrev pub AreCalm : List ℕ → Type 0
+AreCalm bytes = (mission : MissionData) → States bytes mission → HasNoStorms (flown mission)
