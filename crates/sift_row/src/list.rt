@@ -71,7 +71,7 @@ impl<M: Drop, W: Work> Commands<M, W> for NoCommand {
 
 // ---- a row before others
 
-impl<M, W: Work, A: Command<M, W>, B: Commands<M, W>> Job<M, W> for Or<A, B> {
+impl<M, W: Work, A: Job<M, W>, B: Job<M, W>> Job<M, W> for Or<A, B> {
     ghost use Rattle.sift_row.specs.Rows.{by_case};
 
     ghost duty = { λ means. by_case (A.duty means) (B.duty means) };
@@ -91,7 +91,7 @@ impl<M, W: Work, A: Command<M, W>, B: Commands<M, W>> Job<M, W> for Or<A, B> {
     }
 }
 
-impl<M, W: Work, A: Command<M, W>, B: Commands<M, W>> Asked<M, W> for Or<A, B> {
+impl<M, W: Work, A: Command<M, W>, B: Asked<M, W>> Asked<M, W> for Or<A, B> {
     ghost use Rattle.sift_row.specs.Row.{Asks};
     ghost use Rattle.sift_row.specs.Rows.{by_case};
 
