@@ -13,23 +13,22 @@ use Rattle.sift_scenario.specs.Laws.{MissionsAreAccepted, OneMission, OneRefusal
 use Rattle.sift_row.specs.Laws.{AreKept, CommandsGiveOne, CommandsHaveOwnStatuses, MissionsAreDone, MissionsAreLoaded, WorkersDoNotShow}
 use Rattle.sift_row.specs.Row.{Asks, Flies, IsKept, Row}
 use Rattle.sift_row.specs.Rows.{Rows, all_differ, by_case, commands_of, is_among, no_rows, with_row}
-use Rattle.sift_row.specs.declared.list.NoCommand.{NoCommand}
 use Rattle.sift_row.specs.declared.list.Or.{Or}
 use Rattle.sift_row.specs.declared.list.Or.TheVariants.{This, Other}
 use Rattle.sift_row.proofs.Does as does
 
--- no command is kept
+-- no row is kept
 pub none_kept : AreKept no_rows
 none_kept = record {
-  asks = λ differ words one other a b. elim one [ ];
-  named = λ words command asks. elim command [ ];
-  own = λ command. elim command [ ];
-  listed = λ command. elim command [ ];
-  limited = λ command. elim command [ ];
-  one = λ command. elim command [ ];
-  workers = λ one. elim one [ ];
-  loaded = λ command. elim command [ ];
-  done = λ command. elim command [ ];
+  asks = λ differ words one other a b. absurd a;
+  named = λ words command asks. absurd asks;
+  own = λ command. record { among = λ bytes reply gave. absurd gave; apart = λ bytes reply gave. absurd gave };
+  listed = λ command status has. has;
+  limited = λ command flies. absurd flies;
+  one = λ command bytes calm one other gave also. absurd gave;
+  workers = λ one other bytes came there same calm gave also. absurd gave;
+  loaded = λ command bytes mission reply reads. absurd reads;
+  done = λ command mission reply well gave. absurd well.reads;
 }
 
 -- a word is among those of which it is the first, and those behind a word that it is among

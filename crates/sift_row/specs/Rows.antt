@@ -7,7 +7,7 @@ use Rattle.sift_mission.specs.Data.{MissionData}
 use Rattle.sift_mission.specs.Flown.{flown}
 use Rattle.sift_reply.specs.Duty.{Duty}
 use Rattle.sift_reply.specs.Promise.{Commands}
-use Rattle.sift_row.specs.Row.{Asks, Reads, Row, duty_of}
+use Rattle.sift_row.specs.Row.{Asks, Reads, Nothing, Row, duty_of}
 use Rattle.sift_row.specs.declared.list.NoCommand.{NoCommand}
 use Rattle.sift_row.specs.declared.list.Or.{Or}
 use Rattle.sift_row.specs.declared.list.Or.TheVariants.{This, Other}
@@ -42,14 +42,14 @@ with_row row others = record {
   by_one = by_case (λ job. This (row.by_one job)) (λ command. Other (others.by_one command));
 }
 
--- no row
+-- no row: nothing asks for the end of a list, and nothing is due to it
 abbrev pub no_rows : Rows NoCommand
 no_rows = record {
   words = [];
-  asks = λ words command. elim command [ ];
-  duty = λ command. elim command [ ];
-  does = λ command. elim command [ ];
-  statuses = λ command. elim command [ ];
+  asks = λ words command. ⊥;
+  duty = λ command. duty_of (Nothing (λ reply. ⊥));
+  does = λ command. Nothing (λ reply. ⊥);
+  statuses = λ command. [];
   all_statuses = [];
   by_one = λ command. command;
 }

@@ -19,9 +19,9 @@ pub enum Or<A, B> {
     Other(B),
 }
 
-/// No command: the list is at its end.
+/// The end of a list. No words ask for it, so it never begins, and no reply is due to it.
 #[derive(Clone, Copy)]
-pub enum NoCommand {}
+pub struct NoCommand;
 
 /// The commands of a list of rows.
 pub trait Commands<M, W: Work>: Asked<M, W> {
@@ -43,11 +43,11 @@ impl<M: Drop, W: Work> Job<M, W> for NoCommand {
     ghost duty = { λ means. no_rows.duty };
 
     fn limit(self) -> Option<u32> {
-        match self {}
+        None
     }
 
     fn begin(self, _alloc: Global, _means: M, _bytes: &[u8]) -> Result<Begun<W>, NoMemory> {
-        match self {}
+        Err(NoMemory)
     }
 }
 
