@@ -23,3 +23,7 @@ returns-clause-caught g c = rw (← c.of-fleet.ensures)
     (record { before = g.S.Source.inflow c.args.source.now; after = g.S.Source.inflow c.answer.new.source })
     (record { before = g.K.Sink.outflow c.args.sink.now; after = g.K.Sink.outflow c.answer.new.sink })
     c.answer.result c.answer.ensures.answered)
+
+-- words that ask for no input ask for none by these rogues
+pub returns-clause-unread : goal.returns-clause-unread
+returns-clause-unread g c = rw (← c.of-fleet.ensures) c.answer.ensures.unread
