@@ -16,7 +16,7 @@ use sift_flight::{Flight, round_flights_are_alike, round_flights_are_whole};
 use sift_load::{DOCUMENT_LIMIT, MissionJob, begin_for_bytes};
 use sift_mission::{Mission, a_mission_fits, fitting_parts_make_a_flight};
 use sift_options::{Flag, Numbers, Options, within};
-use sift_reply::{Begun, Job, Reply, Work};
+use sift_reply::{Begun, Reply, Work};
 use sift_report::{Version, alike_flights_have_one_text, report_text};
 use sift_row::Command;
 use sift_scenario::stated_missions_fit;
@@ -172,21 +172,6 @@ impl<M: Drop, W: FlownOverBuses> MissionJob<M, W> for BusesJob {
     }
 }
 
-impl<M: Drop, W: FlownOverBuses> Job<M, W> for BusesJob {
-    ghost use Rattle.sift_bus_jobs.specs.Buses.{buses_row};
-    ghost use Rattle.sift_row.specs.Row.{duty_of};
-
-    ghost duty = { λ means job. duty_of (buses_row.does job) };
-
-    fn limit(self) -> Option<u32> {
-        Some(DOCUMENT_LIMIT)
-    }
-
-    fn begin(self, alloc: Global, means: M, bytes: &[u8]) -> Result<Begun<W>, NoMemory> {
-        begin_for_bytes(alloc, means, self, bytes)
-    }
-}
-
 impl<M: Drop, W: FlownOverBuses> Command<M, W> for BusesJob {
     ghost use Rattle.sift_bus_jobs.specs.Buses.{buses_row};
 
@@ -205,6 +190,14 @@ impl<M: Drop, W: FlownOverBuses> Command<M, W> for BusesJob {
         let from = within(options.number(FROM), 0, 999)? as u32;
         let value = word_given(options.number(VALUE))?;
         Some(BusesJob { bus, from, value })
+    }
+
+    fn limit(self) -> Option<u32> {
+        Some(DOCUMENT_LIMIT)
+    }
+
+    fn begin(self, alloc: Global, means: M, bytes: &[u8]) -> Result<Begun<W>, NoMemory> {
+        begin_for_bytes(alloc, means, self, bytes)
     }
 
     fn keeps_its_row() {

@@ -1,6 +1,7 @@
 -- That what is owed to an input is one reply.
 use Rattle.std.proofs.Common.{◌≡◌, ℕ, ◌⊎◌, List, inl, inr, sym, ◌∙◌, subst}
 use Rattle.sift_io.specs.Flow.{Rose}
+use Rattle.sift_commands.specs.declared.list.Command.{Command}
 use Rattle.sift_reply.specs.Duty.{IsOwedTo, input_within}
 use Rattle.sift_reply.specs.Laws.{AsksOne, GivesOneOwesOne}
 use Rattle.sift_reply.specs.Promise.{IsOwed}
@@ -11,10 +12,10 @@ use Rattle.sift_row.specs.Rows.{AreCalm}
 use Rattle.sift_call.specs.Told.{listed, program_commands}
 use Rattle.sift_call.specs.Laws.{AskForCalm, CallsTellWhatTheProgramWrites}
 
-module _ (one_command : AsksOne program_commands) (kept : AreKept listed.rows) (owe_one : (command : listed.Command) → GivesOneOwesOne (listed.rows.duty command)) where
+module _ (one_command : AsksOne program_commands) (kept : AreKept listed) (owe_one : (command : Command) → GivesOneOwesOne (listed.duty command)) where
   -- what a command that flies its input takes for it is all of it
-  calm : (command : listed.Command) (bytes : List ℕ) → (Flies (listed.rows.does command) → AreCalm bytes) → Flies (listed.rows.does command)
-      → AreCalm (input_within (listed.rows.duty command).limit bytes)
+  calm : (command : Command) (bytes : List ℕ) → (Flies (listed.does command) → AreCalm bytes) → Flies (listed.does command)
+      → AreCalm (input_within (listed.duty command).limit bytes)
   calm command bytes are flies = rw (kept.limited command flies) (are flies)
 
   -- two replies that are owed to calm bytes are one
@@ -25,8 +26,8 @@ module _ (one_command : AsksOne program_commands) (kept : AreKept listed.rows) (
   one words bytes a b are (inr (command, asks, owes)) (inl (none, is)) = absurd (none (command, asks))
   one words bytes a b are (inr (command, asks, owes)) (inr (other, asked, owed)) =
       let same = one_command words other command asked asks in
-      owe_one command bytes (kept.one command (input_within (listed.rows.duty command).limit bytes) (calm command bytes (are command asks))) a b owes
-      (subst (λ (it : listed.Command). IsOwedTo (listed.rows.duty it) bytes b) same owed)
+      owe_one command bytes (kept.one command (input_within (listed.duty command).limit bytes) (calm command bytes (are command asks))) a b owes
+      (subst (λ (it : Command). IsOwedTo (listed.duty it) bytes b) same owed)
 
   -- where neither side failed and memory was there, what is told is what was given
   pub same : CallsTellWhatTheProgramWrites

@@ -3,6 +3,7 @@ use Rattle.std.proofs.Common.{◌≡◌, ◌≤◌, ◌<◌, ℕ, ◌⊎◌, inl
 use Rattle.std.proofs.lemmas.List.Elements.{All-contains}
 use Rattle.std.proofs.lemmas.Grind.{common_steps}
 use Rattle.sift_load.specs.Loads.{no_mission_statuses}
+use Rattle.sift_commands.specs.declared.list.Command.{Command}
 use Rattle.sift_reply.specs.Duty.{Duty, HasOwnStatuses, IsOwedTo}
 use Rattle.sift_reply.specs.Reply.{Reply, too_long}
 use Rattle.sift_row.specs.Laws.{AreKept, own_statuses}
@@ -14,7 +15,7 @@ abbrev IsLow : ℕ → Type 0
 IsLow status = status ≤ last_status
 
 -- all that are listed are
-all_low : All IsLow listed.rows.all_statuses
+all_low : All IsLow listed.all_statuses
 all_low = grind (arith, common_steps)
 
 -- and so are those with the ones of bytes that state no mission
@@ -27,9 +28,9 @@ with_others (Bytes limit gives) statuses all = all
 from_each : (statuses : List ℕ) → ((status : ℕ) → Contains statuses status → IsLow status) → All IsLow statuses
 from_each statuses low k d here = low (get_or statuses k d) (k, here, grind (arith, common_steps))
 
-low : AreKept listed.rows → (command : listed.Command) → All IsLow (own_statuses listed.rows command)
-low kept command = with_others (listed.rows.does command) (listed.rows.statuses command)
-    (from_each (listed.rows.statuses command) (λ status has. All-contains IsLow listed.rows.all_statuses status all_low (kept.listed command status has)))
+low : AreKept listed → (command : Command) → All IsLow (own_statuses listed command)
+low kept command = with_others (listed.does command) (listed.statuses command)
+    (from_each (listed.statuses command) (λ status has. All-contains IsLow listed.all_statuses status all_low (kept.listed command status has)))
 
 -- and so is that of what is owed
 owed : (duty : Duty) (statuses : List ℕ) (input : List ℕ) (reply : Reply) → HasOwnStatuses duty statuses → All (λ status. status ≤ last_status) statuses
@@ -41,7 +42,7 @@ owed duty statuses input reply own all (Some limit) is owes = by (rw is at owes)
     by (inl (short, gives)) = All-contains (λ status. status ≤ last_status) statuses reply.status all (own.among input reply gives)
     by (inr (long, said)) = rw said (omega arith)
 
-pub known : AreKept listed.rows → (words : List (List ℕ)) (input : List ℕ) (status : ℕ) (text : List ℕ) → IsTold words input status text → status ≤ last_status
+pub known : AreKept listed → (words : List (List ℕ)) (input : List ℕ) (status : ℕ) (text : List ℕ) → IsTold words input status text → status ≤ last_status
 known kept words input status text (inl (none, is)) = let two : status ≡ 2 = ap (λ (r : Reply). r.status) is in omega (arith, two)
 known kept words input status text (inr (command, asks, owes)) =
-    owed (listed.rows.duty command) (own_statuses listed.rows command) input (record { status = status; text = text }) (kept.own command) (low kept command) _ refl owes
+    owed (listed.duty command) (own_statuses listed command) input (record { status = status; text = text }) (kept.own command) (low kept command) _ refl owes

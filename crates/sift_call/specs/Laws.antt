@@ -1,6 +1,7 @@
 -- That a call tells what the program writes.
 use Rattle.std.specs.Prelude.{ℕ, ◌≡◌, ◌≢◌, List, Some}
 use Rattle.sift_io.specs.Flow.{Rose}
+use Rattle.sift_commands.specs.declared.list.Command.{Command}
 use Rattle.sift_reply.specs.Promise.{IsCertain}
 use Rattle.sift_reply.specs.Reply.{Input, IsGiven, Output, no_memory_status}
 use Rattle.sift_row.specs.Row.{Flies}
@@ -9,7 +10,7 @@ use Rattle.sift_call.specs.Told.{IsTold, listed, program_commands}
 
 -- words ask for no command that flies its input, or the input states no mission with a storm
 abbrev pub AskForCalm : (words : List (List ℕ)) (bytes : List ℕ) → Type 0
-AskForCalm words bytes = (command : listed.Command) → program_commands.asks words command → Flies (listed.rows.does command) → AreCalm bytes
+AskForCalm words bytes = (command : Command) → program_commands.asks words command → Flies (listed.does command) → AreCalm bytes
 
 -- the program was called with an input of these bytes, it ended so, neither side failed, and memory was there
 pub record IsCalled (words : List (List ℕ)) (bytes : List ℕ) (input : Input) (output : Output) (ended : ℕ) : Type 0 where

@@ -4,16 +4,17 @@ use Rattle.sift_rogue.specs.Rogues.{AllowsDrawn}
 use Rattle.sift_alone.specs.Flown.{flying_with}
 use Rattle.sift_alone.specs.Given.{resting_storms}
 use Rattle.sift_commands.specs.Command.{commands, program}
+use Rattle.sift_commands.specs.declared.list.Command.{Command}
 use Rattle.sift_reply.specs.Duty.{IsOwedTo}
 use Rattle.sift_reply.specs.Promise.{Commands, IsOwed}
-use Rattle.sift_row.specs.Rows.{Listed}
+use Rattle.sift_row.specs.Rows.{Rows}
 
 -- the commands of the program, whose stray units store what its storms draw
-abbrev pub listed : Listed
+abbrev pub listed : Rows Command
 listed = program (flying_with AllowsDrawn resting_storms)
 
 -- which words ask for each, and what it has to do
-abbrev pub program_commands : Commands listed.Command
+abbrev pub program_commands : Commands Command
 program_commands = commands (flying_with AllowsDrawn resting_storms)
 
 -- the status and the text are those of a reply that is owed to this input by these words

@@ -19,6 +19,6 @@ done_is_own = grind arith
 pub report_is_written : (flying : Flying) (Holds : MissionData → List ReportLine → Type 0) → AsksOne (commands flying) → ShareNoStatus (commands flying)
     → StatusesAreExplained (commands flying) → RunIsReported flying Holds → ReportIsWritten flying Holds
 report_is_written flying Holds one own explained reported words input output status answered job asks is =
-    let gave = (explained one own words input output status answered).given (This job) asks
+    let gave = (explained one own words input output status answered).given (record { listed = This job }) asks
     (subst (λ (n : ℕ). ¬ Contains shared_statuses n) (sym is) done_is_own) in
     (gave.0, gave.1.text, gave.2, reported job gave.0 gave.1 gave.3 (sym gave.4.0 ∙ is), gave.4.1)

@@ -1,3 +1,4 @@
 pub mod Headline
 pub mod Stated
 pub mod Statuses
+pub mod Standing

@@ -11,13 +11,14 @@ use Rattle.sift_judge_jobs.specs.Judge.{judge_row}
 use Rattle.sift_lab_jobs.specs.Byz.{byz_row}
 use Rattle.sift_lab_jobs.specs.Clocks.{clocks_row}
 use Rattle.sift_reply.specs.Promise.{Commands}
-use Rattle.sift_row.specs.Rows.{Listed, commands_of, end, ◌⊕◌}
+use Rattle.sift_row.specs.Rows.{Rows, commands_of, no_rows, standing_for, ◌⊕◌}
+use Rattle.sift_commands.specs.declared.list.Command.{Command}
 
 module _ (flying : Flying) where
-  -- the commands, where this flies
-  abbrev pub program : Listed
-  program =
-      run_row flying
+  -- the rows of the commands, where this flies
+  abbrev pub program : Rows Command
+  program = standing_for (λ command. command.listed) (λ listed. record { listed = listed })
+      (run_row flying
       ⊕ votes_row flying
       ⊕ ideal_row
       ⊕ check_row
@@ -28,8 +29,8 @@ module _ (flying : Flying) where
       ⊕ buses_row
       ⊕ byz_row
       ⊕ clocks_row
-      ⊕ end
+      ⊕ no_rows)
 
   -- which words ask for each, and what it has to do
-  abbrev pub commands : Commands program.Command
-  commands = commands_of program.rows
+  abbrev pub commands : Commands Command
+  commands = commands_of program

@@ -4,7 +4,7 @@ use sift_base::NoMemory;
 use sift_load::{DOCUMENT_LIMIT, MissionJob, begin_for_bytes};
 use sift_mission::Mission;
 use sift_options::{Flag, Options};
-use sift_reply::{Begun, Job, Reply, Work};
+use sift_reply::{Begun, Reply, Work};
 use sift_row::Command;
 use std::alloc::Global;
 
@@ -29,21 +29,6 @@ impl<M: Drop, W: Work> MissionJob<M, W> for CheckJob {
     }
 }
 
-impl<M: Drop, W: Work> Job<M, W> for CheckJob {
-    ghost use Rattle.sift_jobs.specs.Unflown.{check_row};
-    ghost use Rattle.sift_row.specs.Row.{duty_of};
-
-    ghost duty = { λ means job. duty_of (check_row.does job) };
-
-    fn limit(self) -> Option<u32> {
-        Some(DOCUMENT_LIMIT)
-    }
-
-    fn begin(self, alloc: Global, means: M, bytes: &[u8]) -> Result<Begun<W>, NoMemory> {
-        begin_for_bytes(alloc, means, self, bytes)
-    }
-}
-
 impl<M: Drop, W: Work> Command<M, W> for CheckJob {
     ghost use Rattle.sift_jobs.specs.Unflown.{check_row};
 
@@ -59,6 +44,14 @@ impl<M: Drop, W: Work> Command<M, W> for CheckJob {
 
     fn of(_options: Options<'_>) -> Option<Self> {
         Some(CheckJob)
+    }
+
+    fn limit(self) -> Option<u32> {
+        Some(DOCUMENT_LIMIT)
+    }
+
+    fn begin(self, alloc: Global, means: M, bytes: &[u8]) -> Result<Begun<W>, NoMemory> {
+        begin_for_bytes(alloc, means, self, bytes)
     }
 
     fn keeps_its_row() {}

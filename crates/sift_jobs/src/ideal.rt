@@ -4,7 +4,7 @@ use sift_base::NoMemory;
 use sift_load::{DOCUMENT_LIMIT, MissionJob, begin_for_bytes};
 use sift_mission::Mission;
 use sift_options::{Flag, Options};
-use sift_reply::{Begun, Job, Reply, Work};
+use sift_reply::{Begun, Reply, Work};
 use sift_report::ideal_text;
 use sift_row::Command;
 use std::alloc::Global;
@@ -24,21 +24,6 @@ impl<M: Drop, W: Work> MissionJob<M, W> for IdealJob {
     }
 }
 
-impl<M: Drop, W: Work> Job<M, W> for IdealJob {
-    ghost use Rattle.sift_jobs.specs.Unflown.{ideal_row};
-    ghost use Rattle.sift_row.specs.Row.{duty_of};
-
-    ghost duty = { λ means job. duty_of (ideal_row.does job) };
-
-    fn limit(self) -> Option<u32> {
-        Some(DOCUMENT_LIMIT)
-    }
-
-    fn begin(self, alloc: Global, means: M, bytes: &[u8]) -> Result<Begun<W>, NoMemory> {
-        begin_for_bytes(alloc, means, self, bytes)
-    }
-}
-
 impl<M: Drop, W: Work> Command<M, W> for IdealJob {
     ghost use Rattle.sift_jobs.specs.Unflown.{ideal_row};
 
@@ -54,6 +39,14 @@ impl<M: Drop, W: Work> Command<M, W> for IdealJob {
 
     fn of(_options: Options<'_>) -> Option<Self> {
         Some(IdealJob)
+    }
+
+    fn limit(self) -> Option<u32> {
+        Some(DOCUMENT_LIMIT)
+    }
+
+    fn begin(self, alloc: Global, means: M, bytes: &[u8]) -> Result<Begun<W>, NoMemory> {
+        begin_for_bytes(alloc, means, self, bytes)
     }
 
     fn keeps_its_row() {}

@@ -10,7 +10,7 @@ use sift_mission::Mission;
 use sift_options::{Flag, Numbers, Options, within};
 use sift_planner::{NoRoomAt, one_plan_each, one_size_without_room, plan_sizes, tables_text};
 use sift_program::{shapes_of, sound_programs_have_shapes};
-use sift_reply::{Begun, Job, Reply, Work};
+use sift_reply::{Begun, Reply, Work};
 use sift_row::Command;
 use sift_scenario::stated_missions_fit;
 use std::alloc::Global;
@@ -85,21 +85,6 @@ fn no_room(alloc: Global, none: NoRoomAt) -> Result<Reply, NoMemory>
     Ok(Reply::made(14, line))
 }
 
-impl<M: Drop, W: Work> Job<M, W> for PlanJob {
-    ghost use Rattle.sift_jobs.specs.Plan.{plan_row};
-    ghost use Rattle.sift_row.specs.Row.{duty_of};
-
-    ghost duty = { λ means job. duty_of (plan_row.does job) };
-
-    fn limit(self) -> Option<u32> {
-        Some(DOCUMENT_LIMIT)
-    }
-
-    fn begin(self, alloc: Global, means: M, bytes: &[u8]) -> Result<Begun<W>, NoMemory> {
-        begin_for_bytes(alloc, means, self, bytes)
-    }
-}
-
 impl<M: Drop, W: Work> Command<M, W> for PlanJob {
     ghost use Rattle.sift_jobs.specs.Plan.{plan_row};
 
@@ -117,6 +102,14 @@ impl<M: Drop, W: Work> Command<M, W> for PlanJob {
         let copies = within(options.number(COPIES), 3, 8)? as u8;
         let period = within(options.number(SUBFRAMES), 12, 64)? as u8;
         Some(PlanJob { copies, period })
+    }
+
+    fn limit(self) -> Option<u32> {
+        Some(DOCUMENT_LIMIT)
+    }
+
+    fn begin(self, alloc: Global, means: M, bytes: &[u8]) -> Result<Begun<W>, NoMemory> {
+        begin_for_bytes(alloc, means, self, bytes)
     }
 
     fn keeps_its_row() {

@@ -10,7 +10,7 @@ use sift_flight::round_flights_are_alike;
 use sift_load::{DOCUMENT_LIMIT, MissionJob, begin_for_bytes};
 use sift_mission::{Mission, fitting_parts_make_a_flight};
 use sift_options::{Flag, Numbers, Options};
-use sift_reply::{Begun, Job};
+use sift_reply::Begun;
 use sift_report::{Version, alike_flights_have_one_text};
 use sift_row::Command;
 use sift_scenario::stated_missions_fit;
@@ -54,21 +54,6 @@ impl<F: Flier, W: Flown<F>> MissionJob<F, W> for RunJob {
     }
 }
 
-impl<F: Flier, W: Flown<F>> Job<F, W> for RunJob {
-    ghost use Rattle.sift_jobs.specs.Run.{run_row};
-    ghost use Rattle.sift_row.specs.Row.{duty_of};
-
-    ghost duty = { λ flier job. duty_of ((run_row (F.flying flier)).does job) };
-
-    fn limit(self) -> Option<u32> {
-        Some(DOCUMENT_LIMIT)
-    }
-
-    fn begin(self, alloc: Global, flier: F, bytes: &[u8]) -> Result<Begun<W>, NoMemory> {
-        begin_for_bytes(alloc, flier, self, bytes)
-    }
-}
-
 impl<F: Flier, W: Flown<F>> Command<F, W> for RunJob {
     ghost use Rattle.sift_jobs.specs.Run.{run_row};
 
@@ -87,6 +72,14 @@ impl<F: Flier, W: Flown<F>> Command<F, W> for RunJob {
             workers: Workers::of(options)?,
             version: version_of(options),
         })
+    }
+
+    fn limit(self) -> Option<u32> {
+        Some(DOCUMENT_LIMIT)
+    }
+
+    fn begin(self, alloc: Global, flier: F, bytes: &[u8]) -> Result<Begun<W>, NoMemory> {
+        begin_for_bytes(alloc, flier, self, bytes)
     }
 
     fn keeps_its_row() {

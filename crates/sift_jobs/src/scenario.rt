@@ -3,7 +3,7 @@
 use sift_base::NoMemory;
 use sift_gen::{one_text_of_a_number, scenario_text};
 use sift_options::{Flag, Numbers, Options};
-use sift_reply::{Begun, Job, Reply, Work};
+use sift_reply::{Begun, Reply, Work};
 use sift_row::Command;
 use std::alloc::Global;
 
@@ -18,22 +18,6 @@ pub const NUMBER: Flag = Flag {
     name: "--number",
     numbers: Numbers::Any,
 };
-
-impl<M: Drop, W: Work> Job<M, W> for GenJob {
-    ghost use Rattle.sift_jobs.specs.Gen.{gen_row};
-    ghost use Rattle.sift_row.specs.Row.{duty_of};
-
-    ghost duty = { λ means job. duty_of (gen_row.does job) };
-
-    fn limit(self) -> Option<u32> {
-        None
-    }
-
-    fn begin(self, alloc: Global, _means: M, _bytes: &[u8]) -> Result<Begun<W>, NoMemory> {
-        let text = scenario_text(alloc, self.number)?;
-        Ok(Begun::Replied(Reply::done(text)))
-    }
-}
 
 impl<M: Drop, W: Work> Command<M, W> for GenJob {
     ghost use Rattle.sift_jobs.specs.Gen.{gen_row};
@@ -52,6 +36,15 @@ impl<M: Drop, W: Work> Command<M, W> for GenJob {
         Some(GenJob {
             number: options.number(NUMBER)?,
         })
+    }
+
+    fn limit(self) -> Option<u32> {
+        None
+    }
+
+    fn begin(self, alloc: Global, _means: M, _bytes: &[u8]) -> Result<Begun<W>, NoMemory> {
+        let text = scenario_text(alloc, self.number)?;
+        Ok(Begun::Replied(Reply::done(text)))
     }
 
     fn keeps_its_row() {

@@ -6,7 +6,7 @@ use sift_base::NoMemory;
 use sift_flight::round_flights_are_alike;
 use sift_mission::fitting_parts_make_a_flight;
 use sift_options::{Flag, Options};
-use sift_reply::{Begun, Job};
+use sift_reply::Begun;
 use sift_report::alike_flights_have_one_text;
 use sift_row::Command;
 use sift_scenario::{one_mission, stated_missions_fit};
@@ -19,27 +19,6 @@ use std::alloc::Global;
 pub struct TrialJob {
     pub number: u64,
     pub workers: Workers,
-}
-
-impl<F: Flier, W: Flown<F>> Job<F, W> for TrialJob {
-    ghost use Rattle.sift_jobs.specs.Trial.{trial_row};
-    ghost use Rattle.sift_row.specs.Row.{duty_of};
-
-    ghost duty = { λ flier job. duty_of ((trial_row (F.flying flier)).does job) };
-
-    fn limit(self) -> Option<u32> {
-        None
-    }
-
-    fn begin(self, alloc: Global, flier: F, _bytes: &[u8]) -> Result<Begun<W>, NoMemory> {
-        let mission = drawn_mission(alloc, self.number)?;
-        Ok(Begun::Left(W::by_workers(FlightOrder {
-            flier,
-            mission,
-            workers: self.workers,
-            telling: Telling::LastLine,
-        })))
-    }
 }
 
 impl<F: Flier, W: Flown<F>> Command<F, W> for TrialJob {
@@ -60,6 +39,20 @@ impl<F: Flier, W: Flown<F>> Command<F, W> for TrialJob {
             number: options.number(NUMBER)?,
             workers: Workers::of(options)?,
         })
+    }
+
+    fn limit(self) -> Option<u32> {
+        None
+    }
+
+    fn begin(self, alloc: Global, flier: F, _bytes: &[u8]) -> Result<Begun<W>, NoMemory> {
+        let mission = drawn_mission(alloc, self.number)?;
+        Ok(Begun::Left(W::by_workers(FlightOrder {
+            flier,
+            mission,
+            workers: self.workers,
+            telling: Telling::LastLine,
+        })))
     }
 
     fn keeps_its_row() {

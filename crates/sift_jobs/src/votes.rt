@@ -6,7 +6,7 @@ use sift_flight::round_flights_are_alike;
 use sift_load::{DOCUMENT_LIMIT, MissionJob, begin_for_bytes};
 use sift_mission::{Mission, fitting_parts_make_a_flight};
 use sift_options::{Flag, Options};
-use sift_reply::{Begun, Job};
+use sift_reply::Begun;
 use sift_report::alike_flights_have_one_text;
 use sift_row::Command;
 use sift_scenario::stated_missions_fit;
@@ -33,21 +33,6 @@ impl<F: Flier, W: Flown<F>> MissionJob<F, W> for VotesJob {
     }
 }
 
-impl<F: Flier, W: Flown<F>> Job<F, W> for VotesJob {
-    ghost use Rattle.sift_jobs.specs.Votes.{votes_row};
-    ghost use Rattle.sift_row.specs.Row.{duty_of};
-
-    ghost duty = { λ flier job. duty_of ((votes_row (F.flying flier)).does job) };
-
-    fn limit(self) -> Option<u32> {
-        Some(DOCUMENT_LIMIT)
-    }
-
-    fn begin(self, alloc: Global, flier: F, bytes: &[u8]) -> Result<Begun<W>, NoMemory> {
-        begin_for_bytes(alloc, flier, self, bytes)
-    }
-}
-
 impl<F: Flier, W: Flown<F>> Command<F, W> for VotesJob {
     ghost use Rattle.sift_jobs.specs.Votes.{votes_row};
 
@@ -65,6 +50,14 @@ impl<F: Flier, W: Flown<F>> Command<F, W> for VotesJob {
         Some(VotesJob {
             workers: Workers::of(options)?,
         })
+    }
+
+    fn limit(self) -> Option<u32> {
+        Some(DOCUMENT_LIMIT)
+    }
+
+    fn begin(self, alloc: Global, flier: F, bytes: &[u8]) -> Result<Begun<W>, NoMemory> {
+        begin_for_bytes(alloc, flier, self, bytes)
     }
 
     fn keeps_its_row() {

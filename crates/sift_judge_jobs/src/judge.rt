@@ -15,7 +15,7 @@ use sift_load::{
 };
 use sift_mission::Mission;
 use sift_options::{Flag, Options};
-use sift_reply::{Begun, Job, NoWork, Reply, Work};
+use sift_reply::{Begun, NoWork, Reply, Work};
 use sift_report::{Version, lines_come_apart, sheets_have_their_version};
 use sift_row::Command;
 use std::alloc::Global;
@@ -28,27 +28,6 @@ const INPUT_LIMIT: u32 = 8_388_608;
 #[derive(Clone, Copy)]
 pub struct JudgeJob {
     pub version: Version,
-}
-
-impl<M: Drop, W: Work> Job<M, W> for JudgeJob {
-    ghost use Rattle.sift_judge_jobs.specs.Judge.{judge_row};
-    ghost use Rattle.sift_row.specs.Row.{duty_of};
-
-    ghost duty = { λ means job. duty_of (judge_row.does job) };
-
-    fn limit(self) -> Option<u32> {
-        Some(INPUT_LIMIT)
-    }
-
-    fn begin(self, alloc: Global, means: M, bytes: &[u8]) -> Result<Begun<W>, NoMemory> {
-        let version = self.version;
-        match divide(bytes) {
-            Some(Divided { document, report }) => {
-                begin_for_bytes(alloc, means, ReportJob { report, version }, document)
-            }
-            None => Ok(Begun::Replied(no_line(alloc, 0)?)),
-        }
-    }
 }
 
 impl<M: Drop, W: Work> Command<M, W> for JudgeJob {
@@ -68,6 +47,20 @@ impl<M: Drop, W: Work> Command<M, W> for JudgeJob {
         Some(JudgeJob {
             version: version_of(options),
         })
+    }
+
+    fn limit(self) -> Option<u32> {
+        Some(INPUT_LIMIT)
+    }
+
+    fn begin(self, alloc: Global, means: M, bytes: &[u8]) -> Result<Begun<W>, NoMemory> {
+        let version = self.version;
+        match divide(bytes) {
+            Some(Divided { document, report }) => {
+                begin_for_bytes(alloc, means, ReportJob { report, version }, document)
+            }
+            None => Ok(Begun::Replied(no_line(alloc, 0)?)),
+        }
     }
 
     fn keeps_its_row() {

@@ -18,7 +18,7 @@ use sift_clocklab::{
 use sift_document::BrokenRule;
 use sift_load::{DOCUMENT_LIMIT, read_document};
 use sift_options::{Flag, Numbers, Options, within};
-use sift_reply::{Begun, Job, Reply, Work};
+use sift_reply::{Begun, Reply, Work};
 use sift_row::Command;
 use std::alloc::Global;
 use std::marker::Model;
@@ -29,21 +29,6 @@ use toml::Table;
 /// `byz`: tells the vectors of the plan that the input states.
 #[derive(Clone, Copy)]
 pub struct ByzJob;
-
-impl<M: Drop, W: Work> Job<M, W> for ByzJob {
-    ghost use Rattle.sift_lab_jobs.specs.Byz.{byz_row};
-    ghost use Rattle.sift_row.specs.Row.{duty_of};
-
-    ghost duty = { λ means job. duty_of (byz_row.does job) };
-
-    fn limit(self) -> Option<u32> {
-        Some(DOCUMENT_LIMIT)
-    }
-
-    fn begin(self, alloc: Global, _means: M, bytes: &[u8]) -> Result<Begun<W>, NoMemory> {
-        Ok(Begun::Replied(reply_to(alloc, bytes)?))
-    }
-}
 
 impl<M: Drop, W: Work> Command<M, W> for ByzJob {
     ghost use Rattle.sift_lab_jobs.specs.Byz.{byz_row};
@@ -60,6 +45,14 @@ impl<M: Drop, W: Work> Command<M, W> for ByzJob {
 
     fn of(_options: Options<'_>) -> Option<Self> {
         Some(ByzJob)
+    }
+
+    fn limit(self) -> Option<u32> {
+        Some(DOCUMENT_LIMIT)
+    }
+
+    fn begin(self, alloc: Global, _means: M, bytes: &[u8]) -> Result<Begun<W>, NoMemory> {
+        Ok(Begun::Replied(reply_to(alloc, bytes)?))
     }
 
     fn keeps_its_row() {
@@ -203,21 +196,6 @@ impl ClocksJob {
     }
 }
 
-impl<M: Drop, W: Work> Job<M, W> for ClocksJob {
-    ghost use Rattle.sift_lab_jobs.specs.Clocks.{clocks_row};
-    ghost use Rattle.sift_row.specs.Row.{duty_of};
-
-    ghost duty = { λ means job. duty_of (clocks_row.does job) };
-
-    fn limit(self) -> Option<u32> {
-        None
-    }
-
-    fn begin(self, alloc: Global, _means: M, _bytes: &[u8]) -> Result<Begun<W>, NoMemory> {
-        Ok(Begun::Replied(self.reply(alloc)?))
-    }
-}
-
 impl<T: Drop, W: Work> Command<T, W> for ClocksJob {
     ghost use Rattle.sift_lab_jobs.specs.Clocks.{clocks_row};
 
@@ -248,6 +226,14 @@ impl<T: Drop, W: Work> Command<T, W> for ClocksJob {
             rounds,
             number,
         })
+    }
+
+    fn limit(self) -> Option<u32> {
+        None
+    }
+
+    fn begin(self, alloc: Global, _means: T, _bytes: &[u8]) -> Result<Begun<W>, NoMemory> {
+        Ok(Begun::Replied(self.reply(alloc)?))
     }
 
     fn keeps_its_row() {

@@ -12,7 +12,7 @@ use Rattle.sift_reply.specs.Laws.{AsksOne}
 use Rattle.sift_scenario.specs.Laws.{MissionsAreAccepted, OneMission, OneRefusal}
 use Rattle.sift_row.specs.Laws.{AreKept, CommandsGiveOne, CommandsHaveOwnStatuses, MissionsAreDone, MissionsAreLoaded, WorkersDoNotShow}
 use Rattle.sift_row.specs.Row.{Asks, Flies, IsKept, Row}
-use Rattle.sift_row.specs.Rows.{Rows, all_differ, by_case, commands_of, is_among, no_rows, with_row}
+use Rattle.sift_row.specs.Rows.{Rows, all_differ, by_case, commands_of, is_among, no_rows, ◌⊕◌}
 use Rattle.sift_row.specs.declared.list.Or.{Or}
 use Rattle.sift_row.specs.declared.list.Or.TheVariants.{This, Other}
 use Rattle.sift_row.proofs.Does as does
@@ -47,7 +47,7 @@ rest_differ word words differ = grind (arith, common_steps)
 
 module _ {Job Command : Type 0} (row : Row Job) (others : Rows Command) (kept : IsKept row) (are_kept : AreKept others) where
   abbrev all : Rows (Or Job Command)
-  all = with_row row others
+  all = row ⊕ others
 
   -- words that begin with the row's word ask for no later command
   elsewhere : all_differ all.words ≡ true → (words : List (List ℕ)) (job : Job) (command : Command) → Asks row words job → ¬ others.asks words command
@@ -112,7 +112,7 @@ module _ {Job Command : Type 0} (row : Row Job) (others : Rows Command) (kept : 
 
 -- all of it holds of both
 pub all_kept : {Job Command : Type 0} (row : Row Job) (others : Rows Command) → OneMission → MissionsAreAccepted → OneRefusal → OneMissionIsStated
-    → StatedMissionsAreUnrefused → IsKept row → AreKept others → AreKept (with_row row others)
+    → StatedMissionsAreUnrefused → IsKept row → AreKept others → AreKept (row ⊕ others)
 all_kept row others missions accepted refusals one_stated unrefused kept are_kept = record {
   asks = asks_one row others kept are_kept;
   named = named row others kept are_kept;

@@ -31,8 +31,9 @@ pub record Rows (Command : Type 0) : Type 1 where
   pub by_one : Command → Command
 
 -- a row before others: a command is one of its jobs, or of theirs
-abbrev pub with_row : {Job Command : Type 0} → Row Job → Rows Command → Rows (Or Job Command)
-with_row row others = record {
+infixr 50 ◌⊕◌
+abbrev pub ◌⊕◌ : {Job Command : Type 0} → Row Job → Rows Command → Rows (Or Job Command)
+row ⊕ others = record {
   words = row.word ∷ others.words;
   asks = λ words. by_case (Asks row words) (others.asks words);
   duty = by_case (λ job. duty_of (row.does job)) others.duty;
@@ -54,19 +55,17 @@ no_rows = record {
   by_one = λ command. command;
 }
 
--- rows, whatever their commands are
-pub record Listed : Type 1 where
-  pub Command : Type 0
-  pub rows : Rows Command
-
--- a row before others that are listed
-infixr 50 ◌⊕◌
-abbrev pub ◌⊕◌ : {Job : Type 0} → Row Job → Listed → Listed
-row ⊕ others = record { Command = Or _ others.Command; rows = with_row row others.rows }
-
--- nothing is listed
-abbrev pub end : Listed
-end = record { Command = NoCommand; rows = no_rows }
+-- rows of commands that stand for others
+abbrev pub standing_for : {Inner Command : Type 0} → (inside : Command → Inner) → (made : Inner → Command) → Rows Inner → Rows Command
+standing_for inside made rows = record {
+  words = rows.words;
+  asks = λ words command. rows.asks words (inside command);
+  duty = λ command. rows.duty (inside command);
+  does = λ command. rows.does (inside command);
+  statuses = λ command. rows.statuses (inside command);
+  all_statuses = rows.all_statuses;
+  by_one = λ command. made (rows.by_one (inside command));
+}
 
 -- what is promised of the commands of rows
 abbrev pub commands_of : {Command : Type 0} → Rows Command → Commands Command

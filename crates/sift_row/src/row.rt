@@ -1,14 +1,17 @@
 //! What the crate of a command exports.
 
-ghost use Rattle.std.specs.Prelude.{◌≡◌, ◌∷◌, IfNone, IfSome, map, string_bytes};
+ghost use Rattle.std.specs.Prelude.{◌≡◌, ◌∷◌, IfNone, IfOk, IfSome, map, string_bytes};
 ghost use Rattle.sift_options.specs.Options.{allowed_by, given_by};
-ghost use Rattle.sift_row.specs.Row.{Asks, IsKept};
+ghost use Rattle.sift_reply.specs.Begun.{ComesTo};
+ghost use Rattle.sift_row.specs.Row.{Asks, IsKept, duty_of};
 
+use sift_base::NoMemory;
 use sift_options::{Flag, Options, are_options};
-use sift_reply::{Job, Work};
+use sift_reply::{Begun, Work};
+use std::alloc::Global;
 
 /// A job that a row of the list of commands is for.
-pub trait Command<M, W: Work>: Job<M, W> {
+pub trait Command<M, W: Work>: Copy {
     ghost use Rattle.sift_row.specs.Row.{Row};
 
     /// Its row, by such means.
@@ -25,6 +28,14 @@ pub trait Command<M, W: Work>: Job<M, W> {
     /// What these options ask for.
     fn of(options: Options<'_>) -> Option<Self>
         ensures { (means : M) → result ≡ (row_of means).job_of (given_by options.entry) };
+
+    /// The most bytes of its input. There is none where it reads nothing.
+    fn limit(self) -> Option<u32>
+        ensures { (means : M) → result ≡ (duty_of ((row_of means).does self)).limit };
+
+    /// A reply to these bytes, the whole input, or what is left to be done for one. A job that reads nothing is handed none.
+    fn begin(self, alloc: Global, means: M, bytes: &[u8]) -> Result<Begun<W>, NoMemory>
+        ensures { IfOk result (ComesTo W.gives ((duty_of ((row_of means).does self)).gives bytes.now)) };
 
     /// Its row is kept.
     fn keeps_its_row()

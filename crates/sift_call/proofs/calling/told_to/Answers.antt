@@ -32,5 +32,5 @@ returns-clause-told c =
 
 pub returns-clause-known : goal.returns-clause-known
 returns-clause-known c =
-    let kept = subst (λ (them : List Storm). AreKept (program (flying_with AllowsDrawn them)).rows) (resting c) (c.commands_are_kept.ensures c.of-fleet.result) in
+    let kept = subst (λ (them : List Storm). AreKept (program (flying_with AllowsDrawn them))) (resting c) (c.commands_are_kept.ensures c.of-fleet.result) in
     (known kept (map string_bytes c.args.words.now) _ c.sift_alone-status.result _ (is_told c _ refl), c.if-status-eq-NO_MEMORY_STATUS.false)

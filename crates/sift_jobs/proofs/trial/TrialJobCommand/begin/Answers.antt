@@ -1,4 +1,4 @@
-use Rattle.sift_jobs.proofs.trial.TrialJobJob.begin.Goals as goal
+use Rattle.sift_jobs.proofs.trial.TrialJobCommand.begin.Goals as goal
 
 -- what is told of the flight of the mission that was drawn
 pub returns : goal.returns
