@@ -1,10 +1,10 @@
 //! Flights by one worker and by several, and what is told of them.
 
-ghost use Rattle.std.specs.Prelude.{◌≡◌, ◌≤◌, IfOk, length, string_bytes};
+ghost use Rattle.std.specs.Prelude.{◌≡◌, ◌≤◌, IfOk, length, nat_lt, string_bytes};
 ghost use Rattle.sift_base.specs.Units.{unit_limit};
 ghost use Rattle.sift_alone.specs.Flown.{flying_with};
 ghost use Rattle.sift_alone.specs.Given.{AreGiven};
-ghost use Rattle.sift_alone.specs.Order.{FlyTogether, count_by};
+ghost use Rattle.sift_alone.specs.Order.{FlyTogether, count_by, long_flight, unit_subframes};
 ghost use Rattle.sift_alone.specs.Told.{TellsOfFleet};
 ghost use Rattle.sift_flight.specs.Told.{IsWhole, told};
 ghost use Rattle.sift_jobs.specs.Flights.{IsFlightOf, TellsFlight};
@@ -22,15 +22,27 @@ use std::alloc::Global;
 use std::sync::Wait;
 use std::thread::Threads;
 
+/// How many subframes a flight that isn't short has, each counted once for each unit: by one worker it takes some 40 ms.
+const LONG_FLIGHT: u32 = 40_000;
+
+/// One worker flies the mission before threads would have paid for their start.
+fn is_short(mission: &Mission) -> bool
+    ensures { result ≡ nat_lt (unit_subframes (data_of mission.now)) long_flight }
+{
+    let parts = mission.parts();
+    u32::from(parts.units) * parts.frames * u32::from(parts.period) < LONG_FLIGHT
+}
+
 /// How many workers fly a mission.
 fn count_of(mission: &Mission, workers: Workers) -> u8
-    ensures number { result ≡ count_by mission.now.units workers }
+    ensures number { result ≡ count_by (data_of mission.now) workers }
     ensures some { 1 ≤ result }
     ensures few { result ≤ unit_limit }
 {
     match workers {
         Workers::One { .. } => 1,
         Workers::Several(workers) => workers.get(),
+        Workers::OneEach if is_short(mission) => 1,
         Workers::OneEach => mission.parts().units,
     }
 }
@@ -54,25 +66,27 @@ fn fly_together<R: Rogue + Send, P: Probe + Sync, H: Threads + Wait + Sync>(
     fly_threads(rt, alloc, mission, workers, rogues, probe)
 }
 
-/// Flies what is ordered by as many workers as are asked for, and tells what is asked of it.
+/// Flies what is ordered by so many workers, several, and tells what is asked of it.
 fn tell_together<R: Rogue + Send, P: Probe + Sync, H: Threads + Wait + Sync>(
     rt: &H,
     alloc: Global,
     order: FlightOrder<Fleet<R>>,
+    count: u8,
     probe: &P,
 ) -> Result<String, NoMemory>
-    requires { FlyTogether order.workers }
+    requires asked { count ≡ count_by (data_of order.mission) order.workers }
+    requires together { FlyTogether (data_of order.mission) order.workers }
+    requires few { count ≤ unit_limit }
     ensures { IfOk result (λ text. TellsFlight (flying_with R.allows order.flier.rogues.items) order.workers
         (data_of order.mission) order.telling (string_bytes text)) }
 {
     let FlightOrder {
         flier,
         mission,
-        workers,
+        workers: _,
         telling,
     } = order;
     let Fleet { rogues } = flier;
-    let count = count_of(&mission, workers);
     let flight = fly_together(rt, alloc, &mission, count, rogues, probe)?;
     telling.text(alloc, &mission, &flight)
 }
@@ -88,9 +102,9 @@ fn tell_by_workers<R: Rogue + Send, P: Probe + Sync, H: Threads + Wait + Sync>(
     ensures { IfOk result (λ text. TellsFlight (flying_with R.allows order.flier.rogues.items) order.workers
         (data_of order.mission) order.telling (string_bytes text)) }
 {
-    match order.workers {
-        Workers::One { .. } => tell_alone(alloc, order),
-        Workers::Several(_) | Workers::OneEach => tell_together(rt, alloc, order, probe),
+    match count_of(&order.mission, order.workers) {
+        1 => tell_alone(alloc, order),
+        count => tell_together(rt, alloc, order, count, probe),
     }
 }
 
