@@ -73,10 +73,6 @@ pub record HasOwnStatuses (duty : Duty) (statuses : List ℕ) : Type 0 where
   pub among : (bytes : List ℕ) (reply : Reply) → duty.gives bytes reply → Contains statuses reply.status
   pub apart : SharesNoStatus duty
 
--- two commands give one reply at most to an input of these bytes
-abbrev pub GiveAlike : (one other : Duty) → List ℕ → Type 0
-GiveAlike one other bytes = (came there : Reply) → one.gives bytes came → other.gives bytes there → came ≡ there
-
 -- it gives one reply at most to an input of these bytes
 abbrev pub GivesOneTo : Duty → List ℕ → Type 0
 GivesOneTo duty bytes = (one other : Reply) → duty.gives bytes one → duty.gives bytes other → one ≡ other
