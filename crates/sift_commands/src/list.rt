@@ -49,7 +49,9 @@ impl<F: Flier> Asked<F, Order<F>> for Command {
     ghost asks = { λ flier. (commands (F.flying flier)).asks };
 
     fn from_words(words: &[String]) -> Option<Self> {
-        let listed = <Listed as Commands<F, Order<F>>>::from_words(words)?;
-        Some(Command { listed })
+        match <Listed as Commands<F, Order<F>>>::from_words(words) {
+            Some(listed) => Some(Command { listed }),
+            None => None,
+        }
     }
 }
