@@ -38,7 +38,7 @@ looks_keep v own (n ∷ ns) = let k = looks_keep v own ns in dite (ℕ_discrete 
       looks = (let l = k.looks in omega arith);
     }))
 
--- and so does a round
+-- and so does a round of looks
 pub round_keeps : (v v' : View) (k : ℕ) → LooksRound v k v' → KeepsOwn v v'
 round_keeps v v' k r = subst (λ (w : View). KeepsOwn v w) (sym r.after) (looks_keep v v.unit r.found)
 
@@ -51,17 +51,17 @@ seen_reached v (n ∷ ns) p progress t low ne = dite (ℕ_discrete (length ns) v
     (λ d. rw (ne_eqb (length ns) v.unit d) (put_cases (λ (x : ℕ). progress ≤ x) (view_with_looks v v.unit ns).conduct.seen (length ns) n p
     (λ _. t.0 d) (λ away. seen_reached v ns p progress t.1 (omega arith) ne)))
 
--- a round over all units passes the gate
+-- a round of looks at all units passes the gate
 round_passes : (v v' : View) → LooksRound v v.ranges.units v' → PassesGate v'.ranges v'.conduct v'.unit
 round_passes v v' r p hp ne = let k = round_keeps v v' v.ranges.units r in
     let low : p < v.ranges.units = subst (λ (x : Ranges). p < x.units) k.ranges hp in
     rw (k.conduct, r.after) (seen_reached v r.found p v.conduct.progress r.reached (let a = r.all in omega arith) (λ e. ne (e ∙ sym k.unit)))
 
--- a round that comes to a unit behind
+-- a round of looks that comes to a unit behind
 pub round_behind : (v before : View) (p n : ℕ) → LooksRound v p before → IsOther v p → n < v.conduct.progress → FindsBehind v p n (view_with_look before p n)
 round_behind v before p n r other behind = let k = round_keeps v before p r in record {
   before = before;
-  round = r;
+  looks_round = r;
   after = refl;
   own = record {
     ranges = k.ranges;
@@ -78,9 +78,9 @@ round_behind v before p n r other behind = let k = round_keeps v before p r in r
   };
 }
 
--- a round over all units
+-- a round of looks at all units
 pub round_none : (v v' : View) → LooksRound v v.ranges.units v' → FindsNone v v'
-round_none v v' r = record { round = r; own = round_keeps v v' v.ranges.units r; gate = round_passes v v' r }
+round_none v v' r = record { looks_round = r; own = round_keeps v v' v.ranges.units r; gate = round_passes v v' r }
 
 -- a test of two numbers, and what it tells
 pub apart_by : (a b : ℕ) → true ≡ not (a == b) → a ≢ b

@@ -109,17 +109,17 @@ pub record HasCause (v : View) (p n : ℕ) (v' : View) : Type 0 where
   pub seen : v'.conduct.seen p ≡ n
   pub looked : HasLooked v.looks v'.looks
 
--- the round found the other units below p at the own progress or more, and then p behind, at n
+-- the looks found the other units below p at the own progress or more, and then p behind, at n
 pub record FindsBehind (v : View) (p n : ℕ) (v' : View) : Type 0 where
   pub before : View
-  pub round : LooksRound v p before
+  pub looks_round : LooksRound v p before
   pub after : v' ≡ view_with_look before p n
   pub own : KeepsOwn v v'
   pub cause : HasCause v p n v'
 
--- the round found all other units at the own progress or more, and so the unit passes the gate
+-- the looks found all other units at the own progress or more, and so the unit passes the gate
 pub record FindsNone (v v' : View) : Type 0 where
-  pub round : LooksRound v v.ranges.units v'
+  pub looks_round : LooksRound v v.ranges.units v'
   pub own : KeepsOwn v v'
   pub gate : PassesGate v'.ranges v'.conduct v'.unit
 
@@ -128,21 +128,21 @@ abbrev pub Decides : View → Option (ℕ × ℕ) → View → Type 0
 Decides v None v' = FindsNone v v'
 Decides v (Some x) v' = FindsBehind v x.0 x.1 v'
 
--- the round found all other units at the own progress or more, and then the unit entered
-pub record EntersAfterRound (v v' : View) : Type 0 where
+-- a round of looks found all other units at the own progress or more, and then the unit entered
+pub record EntersAfterLooks (v v' : View) : Type 0 where
   pub before : View
-  pub round : FindsNone v before
+  pub found_none : FindsNone v before
   pub after : v' ≡ view_with_entered before
 
 -- what a try to enter found and left
 abbrev pub Tries : View → Entering → View → Type 0
-Tries v Entered v' = EntersAfterRound v v'
+Tries v Entered v' = EntersAfterLooks v v'
 Tries v (NotYet p n) v' = FindsBehind v p n v'
 
--- the unit turned: at progress 0 without a look, and else after a round that found all other units at the own progress or more
+-- the unit turned: at progress 0 without a look, and else after a round of looks that found all other units at the own progress or more
 pub data Turns (v v' : View) : Type 0 where
   at_once : v.conduct.progress ≡ 0 → v' ≡ view_with_turned v → Turns v v'
-  after_round : (before : View) → 0 < v.conduct.progress → FindsNone v before → v' ≡ view_with_turned before → Turns v v'
+  after_looks : (before : View) → 0 < v.conduct.progress → FindsNone v before → v' ≡ view_with_turned before → Turns v v'
 
 -- what a try to turn found and left
 abbrev pub TriesTurn : View → Entering → View → Type 0

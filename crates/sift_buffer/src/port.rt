@@ -149,7 +149,7 @@ pub trait Port: Look {
 /// The gate: looks at the other units in ascending number, up to the first that is behind the own progress. It answers
 /// that unit and its number.
 pub fn find_behind<L: Look>(port: &mut L) -> Option<(UnitId, u64)>
-    ensures round { Decides (L.view port.old) result (L.view port.new) }
+    ensures decided { Decides (L.view port.old) result (L.view port.new) }
     ensures stands { IfSome result (λ x. L.stands port.new x.0 x.1) }
     ensures steps { L.makes port.old (looks_of (L.view port.old) result) port.new }
     ensures follows { L.follows port.old [] port.new }

@@ -9,7 +9,7 @@ use Rattle.sift_base.specs.laws.Ranges.{range-low}
 use Rattle.sift_base.specs.laws.Counts.{map-same}
 use Rattle.sift_vote.specs.Majority.{agreed_of}
 use Rattle.sift_byz.specs.Charts.{Shows, ShowsHeard, ShowsResults, heard_at, path_in, places_at, relay_at}
-use Rattle.sift_byz.specs.Plan.{PlanData, all_units, first_lie, heard, value_of}
+use Rattle.sift_byz.specs.Plan.{ByzPlanData, all_units, first_lie, heard, value_of}
 use Rattle.sift_byz.specs.Relaying.{outside, result_of}
 use Rattle.sift_byz.proofs.Digits.{digit_below, longer, one_digit, pow-one, shorter, square}
 use Rattle.sift_byz.proofs.Outside.{outside_has}
@@ -42,7 +42,7 @@ shows n count what fill chart places filled long each =
           ∙ each place low;
     }
 
-module _ (plan : PlanData) (some : 0 < plan.units) where
+module _ (plan : ByzPlanData) (some : 0 < plan.units) where
   -- ---- what is heard
 
   -- on the empty path each unit holds its own value
@@ -109,7 +109,7 @@ module _ (plan : PlanData) (some : 0 < plan.units) where
 
 -- a round more is one more than the rounds without it
 pub round_more :
-    (plan : PlanData) (count rounds : ℕ) (longer_chart chart : List (Option ℕ)) → 0 < rounds
+    (plan : ByzPlanData) (count rounds : ℕ) (longer_chart chart : List (Option ℕ)) → 0 < rounds
     → ShowsResults plan (count + 1) (rounds - 1) longer_chart
     → ((left : ℕ) → ShowsResults plan (suc count) left longer_chart → ShowsResults plan count (suc left) chart) → ShowsResults plan count rounds chart
 round_more plan count rounds longer_chart chart some shown folds =
@@ -121,7 +121,7 @@ round_more plan count rounds longer_chart chart some shown folds =
 
 -- the place of q's result for the path of s
 pub result_shown :
-    (plan : PlanData) (rounds : ℕ) (chart : List (Option ℕ)) → ShowsResults plan 1 rounds chart → (q s : ℕ) → q < plan.units → s < plan.units
+    (plan : ByzPlanData) (rounds : ℕ) (chart : List (Option ℕ)) → ShowsResults plan 1 rounds chart → (q s : ℕ) → q < plan.units → s < plan.units
     → get_or chart (s * plan.units + q) None ≡ result_of (all_units plan) (heard plan) rounds (s ∷ []) q
 result_shown plan rounds chart shown q s q_low s_low =
     let n : ℕ = plan.units in

@@ -10,7 +10,7 @@ use Rattle.sift_base.specs.laws.Counts.{count-no, count-yes, map-same}
 use Rattle.sift_base.specs.laws.Ranges.{has-range, range-low, range-ascends}
 use Rattle.sift_vote.specs.Majority.{agreed_of}
 use Rattle.sift_byz.specs.Laws.{LoyalValuesAreKept, OneTraitorIsAsInFlights, VectorsAreEqual, VectorsHoldTheEntries}
-use Rattle.sift_byz.specs.Plan.{IsSquare, LieData, PlanData, TraitorsAreFew, all_units, entry, first_lie, heard, is_loyal, stands_last, tells_some, traitor_count, value_of, vector, vectors_of}
+use Rattle.sift_byz.specs.Plan.{IsSquare, LieData, ByzPlanData, TraitorsAreFew, all_units, entry, first_lie, heard, is_loyal, stands_last, tells_some, traitor_count, value_of, vector, vectors_of}
 use Rattle.sift_byz.specs.Relaying.{LoyalUnitsRelay, outside, result_of}
 use Rattle.sift_byz.proofs.Outside.{no_more, one_fewer, outside-cons, outside-nil, still_outside, traitor_gone}
 use Rattle.sift_byz.proofs.Places.{agreed_one}
@@ -44,13 +44,13 @@ no_lie (lie ∷ lies) r path q none =
     ]
 
 -- so loyal units tell all others what they heard themselves
-relays : (plan : PlanData) → LoyalUnitsRelay (is_loyal plan) (heard plan)
+relays : (plan : ByzPlanData) → LoyalUnitsRelay (is_loyal plan) (heard plan)
 relays plan r path q r_loyal = rw (no_lie plan.lies r path q (not-true _ r_loyal))
 
 -- ---- the laws
 
 -- the traitors are those that aren't loyal
-traitors_are : (plan : PlanData) → faulty_count (is_loyal plan) (all_units plan) ≡ traitor_count plan
+traitors_are : (plan : ByzPlanData) → faulty_count (is_loyal plan) (all_units plan) ≡ traitor_count plan
 traitors_are plan = count-same (tells_some plan.lies) (λ u. not (is_loyal plan u)) (all_units plan) (λ u. twice (tells_some plan.lies u))
   where
     twice : (b : Bool) → not (not b) ≡ b
@@ -58,33 +58,33 @@ traitors_are plan = count-same (tells_some plan.lies) (λ u. not (is_loyal plan 
     twice false = refl
 
 -- q's result for the path of s
-abbrev result_for : PlanData → (q s : ℕ) → Option ℕ
+abbrev result_for : ByzPlanData → (q s : ℕ) → Option ℕ
 result_for plan q s = result_of (all_units plan) (heard plan) plan.m (s ∷ []) q
 
 -- each unit of a plan is one of its units
-unit_in : (plan : PlanData) (u : ℕ) → u < plan.units → has (all_units plan) u ≡ true
+unit_in : (plan : ByzPlanData) (u : ℕ) → u < plan.units → has (all_units plan) u ≡ true
 unit_in plan u low = has-range 0 plan.units u (omega arith) (omega arith)
 
 -- outside of the empty path as well
-outside_none : (plan : PlanData) (u : ℕ) → u < plan.units → has (outside (all_units plan) []) u ≡ true
+outside_none : (plan : ByzPlanData) (u : ℕ) → u < plan.units → has (outside (all_units plan) []) u ≡ true
 outside_none plan u low = rw (outside-nil (all_units plan)) (unit_in plan u low)
 
 -- outside of the path of a unit there is one unit fewer
-one_left : (plan : PlanData) (s : ℕ) → s < plan.units → suc (length (outside (all_units plan) (s ∷ []))) ≡ plan.units
+one_left : (plan : ByzPlanData) (s : ℕ) → s < plan.units → suc (length (outside (all_units plan) (s ∷ []))) ≡ plan.units
 one_left plan s low =
     one_fewer (all_units plan) [] s (range-ascends 0 plan.units) (outside_none plan s low)
     ∙ ap length (outside-nil (all_units plan)) ∙ length-range_with_len 0 plan.units
 
 -- another unit is outside of it
-other_left : (plan : PlanData) (s q : ℕ) → q < plan.units → nat_eq s q ≡ false → has (outside (all_units plan) (s ∷ [])) q ≡ true
+other_left : (plan : ByzPlanData) (s q : ℕ) → q < plan.units → nat_eq s q ≡ false → has (outside (all_units plan) (s ∷ [])) q ≡ true
 other_left plan s q low other = still_outside (all_units plan) [] s q (outside_none plan q low) (eqb-false s q other)
 
 -- the traitors outside are no more than all
-traitors_left : (plan : PlanData) (s : ℕ) → faulty_count (is_loyal plan) (outside (all_units plan) (s ∷ [])) ≤ faulty_count (is_loyal plan) (all_units plan)
+traitors_left : (plan : ByzPlanData) (s : ℕ) → faulty_count (is_loyal plan) (outside (all_units plan) (s ∷ [])) ≤ faulty_count (is_loyal plan) (all_units plan)
 traitors_left plan s = rw (outside-nil (all_units plan)) at (no_more (all_units plan) [] s (is_loyal plan))
 
 -- nor with that unit
-traitors_with : (plan : PlanData) (s : ℕ) → s < plan.units → faulty_count (is_loyal plan) (s ∷ outside (all_units plan) (s ∷ [])) ≤ faulty_count (is_loyal plan) (all_units plan)
+traitors_with : (plan : ByzPlanData) (s : ℕ) → s < plan.units → faulty_count (is_loyal plan) (s ∷ outside (all_units plan) (s ∷ [])) ≤ faulty_count (is_loyal plan) (all_units plan)
 traitors_with plan s low =
     let us : List ℕ = all_units plan in
     elim (cases_Bool (is_loyal plan s)) [
@@ -96,7 +96,7 @@ traitors_with plan s low =
 
 -- a loyal unit's value is in the vectors of the others
 believed :
-    (plan : PlanData) (q s : ℕ) → TraitorsAreFew plan → q < plan.units → s < plan.units
+    (plan : ByzPlanData) (q s : ℕ) → TraitorsAreFew plan → q < plan.units → s < plan.units
     → is_loyal plan q ≡ true → is_loyal plan s ≡ true → nat_eq s q ≡ false → entry plan q s ≡ value_of plan s
 believed plan q s few q_low s_low q_loyal s_loyal other =
     rw other (agreed_one (result_for plan q s)
@@ -114,7 +114,7 @@ loyal_values_are_kept plan q s few q_low s_low q_loyal s_loyal =
 
 -- two loyal units have one entry of any other unit
 agreed_on :
-    (plan : PlanData) (p q s : ℕ) → TraitorsAreFew plan → p < plan.units → q < plan.units → s < plan.units
+    (plan : ByzPlanData) (p q s : ℕ) → TraitorsAreFew plan → p < plan.units → q < plan.units → s < plan.units
     → is_loyal plan p ≡ true → is_loyal plan q ≡ true → nat_eq s p ≡ false → nat_eq s q ≡ false → entry plan p s ≡ entry plan q s
 agreed_on plan p q s few p_low q_low s_low p_loyal q_loyal not_p not_q =
     rw (not_p, not_q) (agreed_one (result_for plan p s)
@@ -126,7 +126,7 @@ agreed_on plan p q s few p_low q_low s_low p_loyal q_loyal not_p not_q =
 
 -- and of either of the two
 entries_equal :
-    (plan : PlanData) (p q s : ℕ) → TraitorsAreFew plan → p < plan.units → q < plan.units → s < plan.units
+    (plan : ByzPlanData) (p q s : ℕ) → TraitorsAreFew plan → p < plan.units → q < plan.units → s < plan.units
     → is_loyal plan p ≡ true → is_loyal plan q ≡ true → entry plan p s ≡ entry plan q s
 entries_equal plan p q s few p_low q_low s_low p_loyal q_loyal =
     let kept : is_loyal plan s ≡ true → entry plan p s ≡ entry plan q s = λ s_loyal.
@@ -163,7 +163,7 @@ vectors_hold_the_entries plan q s q_low s_low =
     ∙ get_or-map-range_with_len (entry plan q) 0 plan.units s s 0 s_low (omega arith)
 
 -- each of a plan's vectors has an entry for each unit
-pub vectors_are_square : (plan : PlanData) → IsSquare (vectors_of plan)
+pub vectors_are_square : (plan : ByzPlanData) → IsSquare (vectors_of plan)
 vectors_are_square plan i d low =
     let many : length (vectors_of plan) ≡ plan.units = length-map-range_with_len (vector plan) 0 plan.units in
     ap length (get_or-map-range_with_len (vector plan) 0 plan.units i i d (omega (arith, many, low)) (omega arith))

@@ -4,7 +4,7 @@ use Rattle.toml.specs.Data.{Data, Members}
 use Rattle.sift_document.specs.Document.{HasOnlyKeys, IsTableOf}
 use Rattle.sift_document.specs.Rules.{HoldsOf, AreKept, BreaksEntries, BreaksFirst, OfNoEntry, Rule, rule}
 use Rattle.sift_document.specs.declared.entries.BrokenRule.{BrokenRule}
-use Rattle.sift_byz.specs.Plan.{IsInRange, LieData, PlanData, TraitorsAreFew, teller_count}
+use Rattle.sift_byz.specs.Plan.{IsInRange, LieData, ByzPlanData, TraitorsAreFew, teller_count}
 use Rattle.sift_byz.specs.Stated.{HasPath, HasReceivers, HasWord, lie_in, lie_keys, lie_limit, lie_value, lies_of, m_of, root_keys, units_of, values_of}
 
 -- ---- the rules
@@ -46,7 +46,7 @@ rules_of document = let m = unwrap_or (m_of document) 0 in rules_for (unwrap_or 
 -- ---- what a document is answered with
 
 -- the document keeps all rules, and states this plan
-pub record IsPlanOf (document : Members) (plan : PlanData) : Type 0 where
+pub record IsByzPlanOf (document : Members) (plan : ByzPlanData) : Type 0 where
   pub lawful : AreKept (rules_of document)
   pub m : m_of document ≡ Some plan.m
   pub units : units_of plan.m document ≡ Some plan.units
@@ -60,17 +60,17 @@ IsRefusedWith document broken = BreaksFirst (rules_of document) broken.number br
 -- ---- laws
 
 -- a document states at most one plan
-abbrev pub OnePlan : Type 0
-OnePlan = (document : Members) (one other : PlanData) → IsPlanOf document one → IsPlanOf document other → one ≡ other
+abbrev pub OneByzPlan : Type 0
+OneByzPlan = (document : Members) (one other : ByzPlanData) → IsByzPlanOf document one → IsByzPlanOf document other → one ≡ other
 
 -- a document that states a plan isn't refused
-abbrev pub PlansAreAccepted : Type 0
-PlansAreAccepted = (document : Members) (plan : PlanData) (broken : BrokenRule) → IsPlanOf document plan → ¬ IsRefusedWith document broken
+abbrev pub ByzPlansAreAccepted : Type 0
+ByzPlansAreAccepted = (document : Members) (plan : ByzPlanData) (broken : BrokenRule) → IsByzPlanOf document plan → ¬ IsRefusedWith document broken
 
 -- a document is refused in one way
 abbrev pub OneRefusal : Type 0
 OneRefusal = (document : Members) (one other : BrokenRule) → IsRefusedWith document one → IsRefusedWith document other → one ≡ other
 
 -- a plan that a document states is within the limits, and its traitors are few
-abbrev pub StatedPlansAreLawful : Type 0
-StatedPlansAreLawful = (document : Members) (plan : PlanData) → IsPlanOf document plan → IsInRange plan × TraitorsAreFew plan
+abbrev pub StatedByzPlansAreLawful : Type 0
+StatedByzPlansAreLawful = (document : Members) (plan : ByzPlanData) → IsByzPlanOf document plan → IsInRange plan × TraitorsAreFew plan

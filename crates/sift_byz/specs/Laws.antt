@@ -3,7 +3,7 @@ use Rattle.std.specs.Prelude.{◌≡◌, ℕ, ◌+◌, ◌*◌, ◌<◌, ◌≤�
 use Rattle.sift_agree.specs.Agreement.{taken}
 use Rattle.sift_base.specs.Units.{faulty_count, has, IsAscending}
 use Rattle.sift_vote.specs.Majority.{agreed_of}
-use Rattle.sift_byz.specs.Plan.{PlanData, TraitorsAreFew, all_units, entry, entry_in, heard, is_loyal, value_of, vector, vectors_of}
+use Rattle.sift_byz.specs.Plan.{ByzPlanData, TraitorsAreFew, all_units, entry, entry_in, heard, is_loyal, value_of, vector, vectors_of}
 use Rattle.sift_byz.specs.Relaying.{Hearing, LoyalUnitsRelay, outside, result_of}
 
 -- ---- any number of rounds
@@ -33,23 +33,23 @@ AnyUnitIsAgreedOn =
 -- where the traitors are few, all loyal units have one vector
 abbrev pub VectorsAreEqual : Type 0
 VectorsAreEqual =
-    (plan : PlanData) (p q : ℕ) → TraitorsAreFew plan → p < plan.units → q < plan.units →
+    (plan : ByzPlanData) (p q : ℕ) → TraitorsAreFew plan → p < plan.units → q < plan.units →
     is_loyal plan p ≡ true → is_loyal plan q ≡ true → vector plan p ≡ vector plan q
 
 -- and in it the entry of each loyal unit is its value
 abbrev pub LoyalValuesAreKept : Type 0
 LoyalValuesAreKept =
-    (plan : PlanData) (q s : ℕ) → TraitorsAreFew plan → q < plan.units → s < plan.units →
+    (plan : ByzPlanData) (q s : ℕ) → TraitorsAreFew plan → q < plan.units → s < plan.units →
     is_loyal plan q ≡ true → is_loyal plan s ≡ true → entry plan q s ≡ value_of plan s
 
 -- where one unit at most may lie, the entry of another unit is the agreed word of what was heard from it and of the relays
 -- of that, as in a flight
 abbrev pub OneTraitorIsAsInFlights : Type 0
 OneTraitorIsAsInFlights =
-    (plan : PlanData) (q s : ℕ) → plan.m ≡ 1 → nat_eq s q ≡ false →
+    (plan : ByzPlanData) (q s : ℕ) → plan.m ≡ 1 → nat_eq s q ≡ false →
     entry plan q s ≡ agreed_of (taken (all_units plan) s q (heard plan (s ∷ [])) (λ p r. heard plan (r ∷ s ∷ []) p))
 
 -- the vectors hold each unit's entry of each unit
 abbrev pub VectorsHoldTheEntries : Type 0
 VectorsHoldTheEntries =
-    (plan : PlanData) (q s : ℕ) → q < plan.units → s < plan.units → entry_in (vectors_of plan) q s ≡ entry plan q s
+    (plan : ByzPlanData) (q s : ℕ) → q < plan.units → s < plan.units → entry_in (vectors_of plan) q s ≡ entry plan q s

@@ -27,7 +27,7 @@ pub record LieData : Type 0 where
   pub value : Option ℕ
 
 -- so many units, each with its value, of which m at most may lie, and what is told in place of what was heard
-pub record PlanData : Type 0 where
+pub record ByzPlanData : Type 0 where
   pub units : ℕ
   pub m : ℕ
   pub values : List ℕ
@@ -37,15 +37,15 @@ pub record PlanData : Type 0 where
 abbrev pub lie_of : Lie → LieData
 lie_of lie = record { path = lie.path.items; to = lie.to.items; value = lie.value }
 
-abbrev pub plan_of : ByzPlan → PlanData
-plan_of plan = record { units = plan.units; m = plan.m; values = plan.values.items; lies = map lie_of plan.lies.items }
+abbrev pub byz_plan_of : ByzPlan → ByzPlanData
+byz_plan_of plan = record { units = plan.units; m = plan.m; values = plan.values.items; lies = map lie_of plan.lies.items }
 
 -- its units, in ascending order
-abbrev pub all_units : PlanData → List ℕ
+abbrev pub all_units : ByzPlanData → List ℕ
 all_units plan = range_with_len 0 plan.units
 
 -- a unit's own value
-abbrev pub value_of : PlanData → ℕ → ℕ
+abbrev pub value_of : ByzPlanData → ℕ → ℕ
 value_of plan u = get_or plan.values u 0
 
 -- ---- traitors
@@ -65,11 +65,11 @@ abbrev pub teller_count : (units : ℕ) → List LieData → ℕ
 teller_count units lies = count_by (tells_some lies) (range_with_len 0 units)
 
 -- all other units are loyal
-abbrev pub is_loyal : PlanData → ℕ → Bool
+abbrev pub is_loyal : ByzPlanData → ℕ → Bool
 is_loyal plan u = not (tells_some plan.lies u)
 
 -- how many traitors there are
-abbrev pub traitor_count : PlanData → ℕ
+abbrev pub traitor_count : ByzPlanData → ℕ
 traitor_count plan = teller_count plan.units plan.lies
 
 -- ---- what is heard
@@ -81,24 +81,24 @@ first_lie lies written q =
 
 -- what q heard by a path: what the first lie tells, or else what the path's last unit heard by the path before it. On the
 -- empty path a unit holds its own value
-abbrev pub heard : PlanData → Hearing
+abbrev pub heard : ByzPlanData → Hearing
 heard plan [] q = Some (value_of plan q)
 heard plan (r ∷ path) q = unwrap_or (first_lie plan.lies (reverse (r ∷ path)) q) (heard plan path r)
 
 -- ---- vectors
 
 -- the entry of s in the vector of q: its own value where it is q, or else the agreed word of q's result for the path of s
-abbrev pub entry : PlanData → (q s : ℕ) → ℕ
+abbrev pub entry : ByzPlanData → (q s : ℕ) → ℕ
 entry plan q s =
     if nat_eq s q then value_of plan s
     else agreed_of (result_of (all_units plan) (heard plan) plan.m (s ∷ []) q ∷ [])
 
 -- the vector of q: its entry of each unit
-abbrev pub vector : PlanData → (q : ℕ) → List ℕ
+abbrev pub vector : ByzPlanData → (q : ℕ) → List ℕ
 vector plan q = map (entry plan q) (all_units plan)
 
 -- the vectors of all units
-abbrev pub vectors_of : PlanData → List (List ℕ)
+abbrev pub vectors_of : ByzPlanData → List (List ℕ)
 vectors_of plan = map (vector plan) (all_units plan)
 
 -- each of some vectors is as long as there are vectors
@@ -112,13 +112,13 @@ entry_in vectors q s = get_or (get_or vectors q []) s 0
 -- ---- conditions
 
 -- the numbers are within their limits, and each unit has a value
-pub record IsInRange (plan : PlanData) : Type 0 where
+pub record IsInRange (plan : ByzPlanData) : Type 0 where
   pub some : 0 < plan.units
   pub few : plan.units ≤ most_units
   pub traitors : plan.m ≤ most_traitors
   pub valued : length plan.values ≡ plan.units
 
 -- at most m units lie, and there are more than three times as many units as m
-pub record TraitorsAreFew (plan : PlanData) : Type 0 where
+pub record TraitorsAreFew (plan : ByzPlanData) : Type 0 where
   pub few : traitor_count plan ≤ plan.m
   pub enough : 3 * plan.m + 1 ≤ plan.units

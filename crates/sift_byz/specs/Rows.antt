@@ -1,6 +1,6 @@
 -- Plans to try the definitions on: each row has vectors that were worked out by hand.
 use Rattle.std.specs.Prelude.{◌≡◌, ℕ, List, [], ◌∷◌, Some, None, true}
-use Rattle.sift_byz.specs.Plan.{LieData, PlanData, TraitorsAreFew, is_loyal, vector}
+use Rattle.sift_byz.specs.Plan.{LieData, ByzPlanData, TraitorsAreFew, is_loyal, vector}
 
 -- a lie that tells one unit a word
 abbrev pub tells : (path : List ℕ) → (to value : ℕ) → LieData
@@ -11,7 +11,7 @@ abbrev pub hides : (path : List ℕ) → (to : ℕ) → LieData
 hides path to = record { path = path; to = to ∷ []; value = None }
 
 -- four units, of which unit 0 tells each other unit another value
-abbrev pub four : PlanData
+abbrev pub four : ByzPlanData
 four = record {
   units = 4;
   m = 1;
@@ -20,11 +20,11 @@ four = record {
 }
 
 -- three units are too few for one traitor: unit 2 relays to unit 1 another value of unit 0
-abbrev pub three : PlanData
+abbrev pub three : ByzPlanData
 three = record { units = 3; m = 1; values = 5 ∷ 6 ∷ 7 ∷ []; lies = tells (0 ∷ 2 ∷ []) 1 9 ∷ [] }
 
 -- seven units and two traitors, 0 and 1, that hardly tell two units the same
-abbrev pub seven : PlanData
+abbrev pub seven : ByzPlanData
 seven = record {
   units = 7;
   m = 2;

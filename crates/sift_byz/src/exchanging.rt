@@ -4,7 +4,7 @@ ghost use Rattle.std.specs.Prelude.{◌≡◌, ℕ, suc, ◌+◌, ◌*◌, ◌^�
 ghost use Rattle.sift_base.specs.Units.{has};
 ghost use Rattle.sift_vote.specs.Majority.{agreed_of};
 ghost use Rattle.sift_byz.specs.Charts.{AreRelayed, HasRelays, HasResults, ShowsHeard, ShowsResults, heard_at, path_in, places_at, relay_at};
-ghost use Rattle.sift_byz.specs.Plan.{IsInRange, all_units, entry, first_lie, lie_of, plan_of, vector, vectors_of};
+ghost use Rattle.sift_byz.specs.Plan.{IsInRange, all_units, entry, first_lie, lie_of, byz_plan_of, vector, vectors_of};
 ghost use Rattle.sift_byz.specs.Relaying.{outside};
 
 use crate::reading::{ByzPlan, Lie};
@@ -20,8 +20,8 @@ use std::alloc::Global;
 /// of its results for the path with one unit added: the algorithm OM(m) of Lamport, Shostak and Pease, "The Byzantine
 /// Generals Problem", ACM Transactions on Programming Languages and Systems 4(3), 1982, run for each unit's value.
 pub fn exchange(alloc: Global, plan: &ByzPlan) -> Result<Vectors, NoMemory>
-    requires { IsInRange (plan_of plan.now) }
-    ensures vectors { IfOk result (λ vectors. vectors ≡ vectors_of (plan_of plan.now)) }
+    requires { IsInRange (byz_plan_of plan.now) }
+    ensures vectors { IfOk result (λ vectors. vectors ≡ vectors_of (byz_plan_of plan.now)) }
     ensures units { IfOk result (λ vectors. length vectors ≡ plan.now.units) }
 {
     let results = results_of(alloc, plan)?;
@@ -34,8 +34,8 @@ pub fn exchange(alloc: Global, plan: &ByzPlan) -> Result<Vectors, NoMemory>
 
 /// The chart of the results for the paths of one unit, from which vectors are made.
 fn results_of(alloc: Global, plan: &ByzPlan) -> Result<Vec<Option<Word>>, NoMemory>
-    requires { IsInRange (plan_of plan.now) }
-    ensures { IfOk result (λ chart. HasResults (plan_of plan.now) chart.items) }
+    requires { IsInRange (byz_plan_of plan.now) }
+    ensures { IfOk result (λ chart. HasResults (byz_plan_of plan.now) chart.items) }
 {
     let own = own_values(alloc, plan)?;
     let heard = hear(alloc, plan, 0, &own)?;
@@ -46,8 +46,8 @@ fn results_of(alloc: Global, plan: &ByzPlan) -> Result<Vec<Option<Word>>, NoMemo
 
 /// Each unit's own value, as what it heard by no path.
 fn own_values(alloc: Global, plan: &ByzPlan) -> Result<Vec<Option<Word>>, NoMemory>
-    requires { IsInRange (plan_of plan.now) }
-    ensures { IfOk result (λ chart. ShowsHeard (plan_of plan.now) 0 chart.items) }
+    requires { IsInRange (byz_plan_of plan.now) }
+    ensures { IfOk result (λ chart. ShowsHeard (byz_plan_of plan.now) 0 chart.items) }
 {
     let mut chart = Vec::with_capacity(alloc, usize::from(plan.units))?;
     for unit in 0..usize::from(plan.units) {
@@ -63,10 +63,10 @@ fn hear(
     count: usize,
     before: &[Option<Word>],
 ) -> Result<Vec<Option<Word>>, NoMemory>
-    requires range { IsInRange (plan_of plan.now) }
+    requires range { IsInRange (byz_plan_of plan.now) }
     requires short { count < 3 }
-    requires heard { ShowsHeard (plan_of plan.now) count before.now }
-    ensures { IfOk result (λ chart. ShowsHeard (plan_of plan.now) (suc count) chart.items) }
+    requires heard { ShowsHeard (byz_plan_of plan.now) count before.now }
+    ensures { IfOk result (λ chart. ShowsHeard (byz_plan_of plan.now) (suc count) chart.items) }
 {
     let places = before.len() * usize::from(plan.units);
     let mut chart = Vec::with_capacity(alloc, places)?;
@@ -78,10 +78,10 @@ fn hear(
 
 /// What a unit heard by a path: what a lie tells it, or else what the path's last unit heard before.
 fn heard_at(plan: &ByzPlan, count: usize, before: &[Option<Word>], place: usize) -> Option<Word>
-    requires range { IsInRange (plan_of plan.now) }
+    requires range { IsInRange (byz_plan_of plan.now) }
     requires short { count < 3 }
     requires within { place < length before.now * plan.now.units }
-    ensures { result ≡ heard_at (plan_of plan.now) count before.now place }
+    ensures { result ≡ heard_at (byz_plan_of plan.now) count before.now place }
 {
     let units = usize::from(plan.units);
     // A chart's path has its last unit first, and that of a lie is in the order in which its units told it.
@@ -128,10 +128,10 @@ fn agree_on(
     rounds: usize,
     heard: Vec<Option<Word>>,
 ) -> Result<Vec<Option<Word>>, NoMemory>
-    requires range { IsInRange (plan_of plan.now) }
+    requires range { IsInRange (byz_plan_of plan.now) }
     requires short { count + rounds ≤ 3 }
-    requires heard { ShowsHeard (plan_of plan.now) count heard.items }
-    ensures { IfOk result (λ chart. ShowsResults (plan_of plan.now) count rounds chart.items) }
+    requires heard { ShowsHeard (byz_plan_of plan.now) count heard.items }
+    ensures { IfOk result (λ chart. ShowsResults (byz_plan_of plan.now) count rounds chart.items) }
 {
     // What came by the longest paths nobody relays, so there is nothing to agree on.
     if rounds == 0 {
@@ -150,10 +150,10 @@ fn fold(
     heard: &[Option<Word>],
     longer: &[Option<Word>],
 ) -> Result<Vec<Option<Word>>, NoMemory>
-    requires range { IsInRange (plan_of plan.now) }
-    requires relayed { AreRelayed (plan_of plan.now) count heard.now longer.now }
-    ensures { IfOk result (λ chart. (rounds : ℕ) → ShowsResults (plan_of plan.now) (suc count) rounds longer.now
-        → ShowsResults (plan_of plan.now) count (suc rounds) chart.items) }
+    requires range { IsInRange (byz_plan_of plan.now) }
+    requires relayed { AreRelayed (byz_plan_of plan.now) count heard.now longer.now }
+    ensures { IfOk result (λ chart. (rounds : ℕ) → ShowsResults (byz_plan_of plan.now) (suc count) rounds longer.now
+        → ShowsResults (byz_plan_of plan.now) count (suc rounds) chart.items) }
 {
     let mut chart = Vec::with_capacity(alloc, heard.len())?;
     for place in 0..heard.len() {
@@ -170,10 +170,10 @@ fn agreed_at(
     longer: &[Option<Word>],
     place: usize,
 ) -> Word
-    requires range { IsInRange (plan_of plan.now) }
-    requires relayed { AreRelayed (plan_of plan.now) count heard.now longer.now }
+    requires range { IsInRange (byz_plan_of plan.now) }
+    requires relayed { AreRelayed (byz_plan_of plan.now) count heard.now longer.now }
     requires within { place < length heard.now }
-    ensures { result ≡ agreed_of (places_at (plan_of plan.now) count heard.now longer.now place) }
+    ensures { result ≡ agreed_of (places_at (byz_plan_of plan.now) count heard.now longer.now place) }
 {
     let units = usize::from(plan.units);
     let row = place / units;
@@ -190,9 +190,9 @@ fn relays(
     to: u8,
     longer: &[Option<Word>],
 ) -> ArrayVec<Option<Word>, 10>
-    requires range { IsInRange (plan_of plan.now) }
-    requires relayed { HasRelays (plan_of plan.now) longer.now row to }
-    ensures { result.items ≡ map (relay_at (plan_of plan.now) longer.now row to) (outside (all_units (plan_of plan.now)) (to ∷ path.now)) }
+    requires range { IsInRange (byz_plan_of plan.now) }
+    requires relayed { HasRelays (byz_plan_of plan.now) longer.now row to }
+    ensures { result.items ≡ map (relay_at (byz_plan_of plan.now) longer.now row to) (outside (all_units (byz_plan_of plan.now)) (to ∷ path.now)) }
 {
     let units = usize::from(plan.units);
     let mut relays = ArrayVec::new();
@@ -215,9 +215,9 @@ fn is_outside(unit: u8, other: u8, path: &[u8]) -> bool
 
 /// The vector of a unit.
 fn vector_of(plan: &ByzPlan, results: &[Option<Word>], q: u8) -> ArrayVec<Word, 10>
-    requires results { HasResults (plan_of plan.now) results.now }
+    requires results { HasResults (byz_plan_of plan.now) results.now }
     requires unit { q < plan.now.units }
-    ensures { result.items ≡ vector (plan_of plan.now) q }
+    ensures { result.items ≡ vector (byz_plan_of plan.now) q }
 {
     let mut row = ArrayVec::new();
     for s in 0..plan.units {
@@ -228,10 +228,10 @@ fn vector_of(plan: &ByzPlan, results: &[Option<Word>], q: u8) -> ArrayVec<Word, 
 
 /// The entry of a unit in the vector of another.
 fn entry_of(plan: &ByzPlan, results: &[Option<Word>], q: u8, s: u8) -> Word
-    requires results { HasResults (plan_of plan.now) results.now }
+    requires results { HasResults (byz_plan_of plan.now) results.now }
     requires unit { q < plan.now.units }
     requires other { s < plan.now.units }
-    ensures { result ≡ entry (plan_of plan.now) q s }
+    ensures { result ≡ entry (byz_plan_of plan.now) q s }
 {
     if s == q {
         return plan.values[usize::from(s)];

@@ -7,8 +7,8 @@ ghost use Rattle.sift_document.specs.Document.{digit_to, digits_to, each_read};
 ghost use Rattle.std.specs.List.{All};
 ghost use Rattle.sift_base.specs.Stop.{IfRefused};
 ghost use Rattle.sift_document.specs.Testing.{OnlyRefuses, RefusesFirst, Tests, TestsEach};
-ghost use Rattle.sift_byz.specs.Lawful.{BreaksFew, IsPlanOf, IsRefusedWith, rules_for, rules_of};
-ghost use Rattle.sift_byz.specs.Plan.{IsInRange, PlanData, TraitorsAreFew, lie_of, plan_of, most_traitors, most_units};
+ghost use Rattle.sift_byz.specs.Lawful.{BreaksFew, IsByzPlanOf, IsRefusedWith, rules_for, rules_of};
+ghost use Rattle.sift_byz.specs.Plan.{IsInRange, ByzPlanData, TraitorsAreFew, lie_of, byz_plan_of, most_traitors, most_units};
 ghost use Rattle.sift_byz.specs.Testing.{MayBe};
 ghost use Rattle.sift_byz.specs.Stated.{IsPath, lie_in, lie_limit, lies_of, m_of, units_of, values_of};
 
@@ -89,13 +89,13 @@ pub struct ByzPlan {
 ///
 /// The nine rules are tested in the order of their numbers, and each for the entries of `lie` in their order.
 pub fn read_byz(alloc: Global, document: &Table) -> Result<ByzPlan, Stop<BrokenRule>>
-    ensures accepted { IfOk result (λ plan. IsPlanOf (table_view document.now) (plan_of plan)) }
-    ensures within { IfOk result (λ plan. IsInRange (plan_of plan)) }
-    ensures few { IfOk result (λ plan. TraitorsAreFew (plan_of plan)) }
+    ensures accepted { IfOk result (λ plan. IsByzPlanOf (table_view document.now) (byz_plan_of plan)) }
+    ensures within { IfOk result (λ plan. IsInRange (byz_plan_of plan)) }
+    ensures few { IfOk result (λ plan. TraitorsAreFew (byz_plan_of plan)) }
     ensures refused { IfErr result (IfRefused (IsRefusedWith (table_view document.now))) }
 
     // A document that states a plan, or is owed a refusal, gets it, unless memory is wanting.
-    ensures complete { (plan : PlanData) → IsPlanOf (table_view document.now) plan → IfErr result (λ why. why ≡ Stop.NoMemory) }
+    ensures complete { (plan : ByzPlanData) → IsByzPlanOf (table_view document.now) plan → IfErr result (λ why. why ≡ Stop.NoMemory) }
     ensures exact { (owed : BrokenRule) → IsRefusedWith (table_view document.now) owed → OnlyRefuses owed result }
 {
     read_plan(alloc, document)
@@ -103,7 +103,7 @@ pub fn read_byz(alloc: Global, document: &Table) -> Result<ByzPlan, Stop<BrokenR
 
 /// The plan that a document states, or the first rule that it breaks.
 fn read_plan(alloc: Global, document: &Table) -> Result<ByzPlan, Stop<BrokenRule>>
-    ensures accepted { IfOk result (λ plan. IsPlanOf (table_view document.now) (plan_of plan)) }
+    ensures accepted { IfOk result (λ plan. IsByzPlanOf (table_view document.now) (byz_plan_of plan)) }
     ensures refused { IfErr result (RefusesFirst (rules_of (table_view document.now))) }
 {
     if !has_only_keys(document, &["units", "m", "values", "lie"]) {

@@ -1,10 +1,10 @@
 //! The vectors that the units make, their text, and the laws of oral messages.
 
 ghost use Rattle.std.specs.Prelude.{◌≡◌, ◌<◌, [], get_or, length, codes, ◌++◌, if◌then◌else◌, IfOk, OnOk, string_bytes};
-ghost use Rattle.sift_byz.specs.Plan.{entry_in, plan_of, stands_last, tells_some, vectors_of};
+ghost use Rattle.sift_byz.specs.Plan.{entry_in, byz_plan_of, stands_last, tells_some, vectors_of};
 ghost use Rattle.sift_byz.specs.Text.{line_text, text_of, words_text};
 ghost use Rattle.sift_byz.specs.Laws.{AnyUnitIsAgreedOn, LoyalUnitIsBelieved, LoyalValuesAreKept, OneTraitorIsAsInFlights, VectorsAreEqual, VectorsHoldTheEntries};
-ghost use Rattle.sift_byz.specs.Lawful.{OnePlan, OneRefusal, PlansAreAccepted, StatedPlansAreLawful};
+ghost use Rattle.sift_byz.specs.Lawful.{OneByzPlan, OneRefusal, ByzPlansAreAccepted, StatedByzPlansAreLawful};
 ghost use Rattle.sift_byz.specs.Rows.{PremisesAreMet, Rows, ThreeAreTooFew};
 
 use crate::reading::{ByzPlan, Lie};
@@ -58,8 +58,8 @@ impl Vectors {
 /// It has a line for each unit: `u=U liar` for a traitor, and for each other unit `u=U vector=LIST`, where the words stand in the
 /// order of the units, each as four hexadecimal digits, with commas between them.
 pub fn vectors_text(alloc: Global, plan: &ByzPlan, vectors: &Vectors) -> Result<String, NoMemory>
-    requires { vectors.now ≡ vectors_of (plan_of plan.now) }
-    ensures { IfOk result (λ text. string_bytes text ≡ text_of (plan_of plan.now)) }
+    requires { vectors.now ≡ vectors_of (byz_plan_of plan.now) }
+    ensures { IfOk result (λ text. string_bytes text ≡ text_of (byz_plan_of plan.now)) }
 {
     let mut text = String::new(alloc);
     for unit in 0..plan.units {
@@ -70,7 +70,7 @@ pub fn vectors_text(alloc: Global, plan: &ByzPlan, vectors: &Vectors) -> Result<
 
 /// Appends the line of a unit.
 fn push_line(text: &mut String, plan: &ByzPlan, unit: u8, vector: &[Word]) -> Result<(), AllocError>
-    ensures { OnOk result (string_bytes text.new ≡ string_bytes text.old ++ line_text (plan_of plan.now) unit vector.now) }
+    ensures { OnOk result (string_bytes text.new ≡ string_bytes text.old ++ line_text (byz_plan_of plan.now) unit vector.now) }
 {
     write!(text, "u={unit}")?;
     push_told(text, plan, unit, vector)?;
@@ -80,7 +80,7 @@ fn push_line(text: &mut String, plan: &ByzPlan, unit: u8, vector: &[Word]) -> Re
 /// Appends what is said of a unit.
 fn push_told(text: &mut String, plan: &ByzPlan, unit: u8, vector: &[Word]) -> Result<(), AllocError>
     ensures { OnOk result (string_bytes text.new ≡ string_bytes text.old
-        ++ (if tells_some (plan_of plan.now).lies unit then codes " liar" else codes " vector=" ++ words_text vector.now)) }
+        ++ (if tells_some (byz_plan_of plan.now).lies unit then codes " liar" else codes " vector=" ++ words_text vector.now)) }
 {
     if is_traitor(plan, unit) {
         text.push_str(" liar")
@@ -92,7 +92,7 @@ fn push_told(text: &mut String, plan: &ByzPlan, unit: u8, vector: &[Word]) -> Re
 
 /// Whether a unit stands last in the path of a lie.
 fn is_traitor(plan: &ByzPlan, unit: u8) -> bool
-    ensures { result ≡ tells_some (plan_of plan.now).lies unit }
+    ensures { result ≡ tells_some (byz_plan_of plan.now).lies unit }
 {
     for lie in &plan.lies {
         if tells(lie, unit) {
@@ -125,13 +125,13 @@ fn push_words(text: &mut String, words: &[Word]) -> Result<(), AllocError>
 // ---- laws
 
 /// A document states at most one plan.
-pub fn one_plan()
-    ensures { OnePlan }
+pub fn one_byz_plan()
+    ensures { OneByzPlan }
 {}
 
 /// A document that states a plan is refused by no rule.
-pub fn plans_are_accepted()
-    ensures { PlansAreAccepted }
+pub fn byz_plans_are_accepted()
+    ensures { ByzPlansAreAccepted }
 {}
 
 /// A document is refused in one way: by one rule, at one place.
@@ -140,8 +140,8 @@ pub fn one_refusal()
 {}
 
 /// A plan that a document states is within the limits, and its traitors are few.
-pub fn stated_plans_are_lawful()
-    ensures { StatedPlansAreLawful }
+pub fn stated_byz_plans_are_lawful()
+    ensures { StatedByzPlansAreLawful }
 {}
 
 /// What a loyal unit holds is the result of each other loyal unit.

@@ -2,8 +2,8 @@
 use Rattle.std.proofs.Common.{◌≡◌, inl, inr, ℕ, List, ℤ, sym, ap, ◌∙◌, subst, arith}
 use Rattle.std.proofs.lemmas.Int.{ints}
 use Rattle.toml.specs.Data.{Members}
-use Rattle.sift_byz.specs.Lawful.{OnePlan, OneRefusal, PlansAreAccepted}
-use Rattle.sift_byz.specs.Plan.{PlanData}
+use Rattle.sift_byz.specs.Lawful.{OneByzPlan, OneRefusal, ByzPlansAreAccepted}
+use Rattle.sift_byz.specs.Plan.{ByzPlanData}
 use Rattle.sift_byz.specs.Text.{text_of}
 use Rattle.sift_clocklab.specs.Conditions.{IsAdmitted, IsRefused}
 use Rattle.sift_clocklab.specs.Text.{OneTextOfARun}
@@ -19,11 +19,11 @@ use Rattle.sift_lab_jobs.specs.Clocks.{ClocksGives, LabNumbers, lab_of, run_of}
 one_tree : (bytes : List ℕ) (one other : Members) → IsDocument bytes one → IsDocument bytes other → one ≡ other
 one_tree bytes one other reads reads' = cc (reads.1, reads'.1)
 
-module _ (one_plan : OnePlan) (accepted : PlansAreAccepted) (one_refusal : OneRefusal) where
+module _ (one_byz_plan : OneByzPlan) (accepted : ByzPlansAreAccepted) (one_refusal : OneRefusal) where
   -- a document gets one reply
   for_document : (document : Members) (one other : Reply) → ByzGivesFor document one → ByzGivesFor document other → one ≡ other
   for_document document one other (inl (plan, states, is)) (inl (plan', states', is')) =
-      is ∙ (ap (λ (p : PlanData). done (text_of p)) (one_plan document plan plan' states states') ∙ sym is')
+      is ∙ (ap (λ (p : ByzPlanData). done (text_of p)) (one_byz_plan document plan plan' states states') ∙ sym is')
   for_document document one other (inl (plan, states, is)) (inr (broken, breaks, is')) = absurd (accepted document plan broken states breaks)
   for_document document one other (inr (broken, breaks, is)) (inl (plan, states, is')) = absurd (accepted document plan broken states breaks)
   for_document document one other (inr (broken, breaks, is)) (inr (broken', breaks', is')) =

@@ -1,14 +1,14 @@
 -- What the texts show.
 use Rattle.std.proofs.Common.{pos}
 use Rattle.sift_byz.specs.Laws.{LoyalValuesAreKept, VectorsAreEqual}
-use Rattle.sift_byz.specs.Lawful.{StatedPlansAreLawful}
+use Rattle.sift_byz.specs.Lawful.{StatedByzPlansAreLawful}
 use Rattle.sift_clocklab.specs.DrawnRuns.{DrawnRunsAreKept}
 use Rattle.sift_clocklab.specs.Text.{MostIsWithinTheBound}
 use Rattle.sift_lab_jobs.specs.Clocks.{lab_of, run_of}
-use Rattle.sift_lab_jobs.specs.Shown.{NoSkewIsOverTheBound, StatedPlansAgree}
+use Rattle.sift_lab_jobs.specs.Shown.{NoSkewIsOverTheBound, StatedByzPlansAgree}
 
 -- loyal units agree
-pub agree : StatedPlansAreLawful → VectorsAreEqual → LoyalValuesAreKept → StatedPlansAgree
+pub agree : StatedByzPlansAreLawful → VectorsAreEqual → LoyalValuesAreKept → StatedByzPlansAgree
 agree lawful equal kept document plan p q states below below' loyal loyal' =
     let few = (lawful document plan states).1 in
     (equal plan p q few below below' loyal loyal', kept plan q p few below' below loyal' loyal)

@@ -4,8 +4,8 @@ use Rattle.std.specs.Fmt.{decimal}
 use Rattle.std.specs.List.{concat}
 use Rattle.toml.specs.Data.{Members}
 use Rattle.sift_document.specs.declared.entries.BrokenRule.{BrokenRule}
-use Rattle.sift_byz.specs.Lawful.{IsPlanOf, IsRefusedWith}
-use Rattle.sift_byz.specs.Plan.{PlanData}
+use Rattle.sift_byz.specs.Lawful.{IsByzPlanOf, IsRefusedWith}
+use Rattle.sift_byz.specs.Plan.{ByzPlanData}
 use Rattle.sift_byz.specs.Text.{text_of}
 use Rattle.sift_load.specs.Loads.{document_limit, IsDocument, StatesNone, reply_to}
 use Rattle.sift_load.specs.declared.loading.NoMission.TheVariants.{NotADocument}
@@ -21,7 +21,7 @@ broken_rule broken =
 -- the text of the vectors of the plan that a document states, or which rule it breaks
 abbrev pub ByzGivesFor : Members → Reply → Type 0
 ByzGivesFor document came =
-    ((plan : PlanData) × IsPlanOf document plan × (came ≡ done (text_of plan)))
+    ((plan : ByzPlanData) × IsByzPlanOf document plan × (came ≡ done (text_of plan)))
     ⊎ ((broken : BrokenRule) × IsRefusedWith document broken × (came ≡ broken_rule broken))
 
 -- the reply for the document that the input is, or to an input that is none

@@ -4,12 +4,12 @@ ghost use Rattle.std.specs.Prelude.{◌≡◌, IfOk};
 ghost use Rattle.sift_lab_jobs.specs.Byz.{ByzGives, ByzGivesFor, broken_rule};
 ghost use Rattle.toml.specs.View.{table_view};
 ghost use Rattle.sift_lab_jobs.specs.Clocks.{ClocksGives};
-ghost use Rattle.sift_lab_jobs.specs.Shown.{NoSkewIsOverTheBound, StatedPlansAgree};
+ghost use Rattle.sift_lab_jobs.specs.Shown.{NoSkewIsOverTheBound, StatedByzPlansAgree};
 
 use sift_base::{NoMemory, Stop};
 use sift_byz::{
-    exchange, loyal_values_are_kept, one_plan, one_refusal, plans_are_accepted, read_byz,
-    stated_plans_are_lawful, vectors_are_equal, vectors_text,
+    byz_plans_are_accepted, exchange, loyal_values_are_kept, one_byz_plan, one_refusal, read_byz,
+    stated_byz_plans_are_lawful, vectors_are_equal, vectors_text,
 };
 use sift_clocklab::{
     LabStop, drawn, drawn_runs_are_kept, drawn_runs_are_of_the_draws, lab_text,
@@ -56,8 +56,8 @@ impl<M: Drop, W: Work> Command<M, W> for ByzJob {
     }
 
     fn keeps_its_row() {
-        one_plan();
-        plans_are_accepted();
+        one_byz_plan();
+        byz_plans_are_accepted();
         one_refusal();
     }
 }
@@ -244,10 +244,10 @@ impl<T: Drop, W: Work> Command<T, W> for ClocksJob {
 // ---- laws
 
 /// Of each plan that an input states, `byz` tells one vector for all loyal units, and in it the value of each.
-pub fn stated_plans_agree()
-    ensures { StatedPlansAgree }
+pub fn stated_byz_plans_agree()
+    ensures { StatedByzPlansAgree }
 {
-    stated_plans_are_lawful();
+    stated_byz_plans_are_lawful();
     vectors_are_equal();
     loyal_values_are_kept();
 }

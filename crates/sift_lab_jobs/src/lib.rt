@@ -3,4 +3,4 @@
 
 mod labs;
 
-pub use labs::{ByzJob, ClocksJob, no_skew_is_over_the_bound, stated_plans_agree};
+pub use labs::{ByzJob, ClocksJob, no_skew_is_over_the_bound, stated_byz_plans_agree};

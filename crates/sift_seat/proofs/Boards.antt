@@ -2,7 +2,7 @@
 use Rattle.std.proofs.Common.{◌≡◌, ⊎_elim, ℕ, ◌+◌, ◌*◌, ◌<◌, ◌≤◌, Bool, true, false, ap, ◌∙◌, arith, mul_comm}
 use Rattle.std.proofs.lemmas.Nat.{mul-le, mul-add-lt}
 use Rattle.sift_buffer.specs.Conduct.{Conduct, never}
-use Rattle.sift_buffer.specs.Views.{View, KeepsOwn, EntersAfterRound, Turns, at_once, after_round}
+use Rattle.sift_buffer.specs.Views.{View, KeepsOwn, EntersAfterLooks, Turns, at_once, after_looks}
 use Rattle.sift_mission.specs.Data.{FlownMission}
 use Rattle.sift_unit.specs.Boards.{desk_of, Drives}
 use Rattle.sift_unit.specs.Desk.{Desk}
@@ -29,13 +29,13 @@ further_place v w x a b = record { unit = b.unit ∙ a.unit; ranges = b.ranges �
 own_place : (v w : View) → KeepsOwn v w → KeepsPlace v w
 own_place v w k = record { unit = k.unit; ranges = k.ranges }
 
-entered_place : (v w : View) → EntersAfterRound v w → KeepsPlace v w
-entered_place v w e = further_place v e.before w (own_place v e.before e.round.own)
+entered_place : (v w : View) → EntersAfterLooks v w → KeepsPlace v w
+entered_place v w e = further_place v e.before w (own_place v e.before e.found_none.own)
     (record { unit = ap (λ (z : View). z.unit) e.after; ranges = ap (λ (z : View). z.ranges) e.after })
 
 turned_place : (v w : View) → Turns v w → KeepsPlace v w
 turned_place v w (at_once start e) = record { unit = ap (λ (z : View). z.unit) e; ranges = ap (λ (z : View). z.ranges) e }
-turned_place v w (after_round before late round e) = further_place v before w (own_place v before round.own)
+turned_place v w (after_looks before late none e) = further_place v before w (own_place v before none.own)
     (record { unit = ap (λ (z : View). z.unit) e; ranges = ap (λ (z : View). z.ranges) e })
 
 called_place : (b : Desk) (v : View) (b' : Desk) (v' : View) → OneCall b v b' v' → KeepsPlace v v'
@@ -54,13 +54,13 @@ step_place m b v Landed b' v' stands s = ⊎_elim (λ same. same_place v v' same
 -- ---- numbers
 
 -- the progress of a unit that entered
-pub entered_progress : (v w : View) → EntersAfterRound v w → w.conduct.progress ≡ v.conduct.progress + 1
-entered_progress v w e = ap (λ (z : View). z.conduct.progress) e.after ∙ ap (λ (c : Conduct). c.progress + 1) e.round.own.conduct
+pub entered_progress : (v w : View) → EntersAfterLooks v w → w.conduct.progress ≡ v.conduct.progress + 1
+entered_progress v w e = ap (λ (z : View). z.conduct.progress) e.after ∙ ap (λ (c : Conduct). c.progress + 1) e.found_none.own.conduct
 
 -- a unit that turned left at the progress that it had
 pub turned_left : (v w : View) → Turns v w → w.conduct.left ≡ v.conduct.progress
 turned_left v w (at_once start e) = ap (λ (z : View). z.conduct.left) e
-turned_left v w (after_round before late round e) = ap (λ (z : View). z.conduct.left) e ∙ ap (λ (c : Conduct). c.progress) round.own.conduct
+turned_left v w (after_looks before late none e) = ap (λ (z : View). z.conduct.left) e ∙ ap (λ (c : Conduct). c.progress) none.own.conduct
 
 -- a board whose unit flies is one that is marked so
 module _ (m : FlownMission) (b : Board) (v : View) (d : Drives m b v) (flies : v.conduct.left ≡ never) where

@@ -41,13 +41,13 @@ pub fn stated_clocks(document: &Table, units: u8) -> Result<ClockPlan, BrokenRul
     ensures tests { DecidesEach (clock_rules units (get_member (codes "clock") (table_view document.now))) result }
 {
     match member_of(document, "clock") {
-        Some(value) => stated_plan(value, units),
-        None => Ok(plain_plan(units)),
+        Some(value) => stated_clock_plan(value, units),
+        None => Ok(plain_clock_plan(units)),
     }
 }
 
 /// The clocks that the value of `clock` states.
-fn stated_plan(value: &Value, units: u8) -> Result<ClockPlan, BrokenRule>
+fn stated_clock_plan(value: &Value, units: u8) -> Result<ClockPlan, BrokenRule>
     requires { units ≤ unit_limit }
     ensures read { IfOk result (λ plan. clocks_of plan ≡ clocks_in units (Some (view value.now))) }
     ensures tests { DecidesEach (clock_rules units (Some (view value.now))) result }
@@ -305,7 +305,7 @@ fn unit_rows(value: &Value, units: u8, far: u32) -> Option<ArrayVec<ArrayVec<i32
 }
 
 /// Clocks that agree, for so many units, with subframes of one tick.
-fn plain_plan(units: u8) -> ClockPlan
+fn plain_clock_plan(units: u8) -> ClockPlan
     requires { units ≤ unit_limit }
     ensures { clocks_of result ≡ clocks_in units None }
 {

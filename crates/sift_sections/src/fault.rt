@@ -221,7 +221,7 @@ fn script_from(
     for items in said {
         let place = entries.len();
         let Head { unit, from } = heads[place];
-        match plan_of(tables[place], items) {
+        match entry_plan_of(tables[place], items) {
             Some(plan) => entries.push(Entry { unit, from, plan })?,
             None => return Err(broken(30, place)),
         }
@@ -230,7 +230,7 @@ fn script_from(
 }
 
 /// How a fault fails that says this: by its storm, where it has one. `None` where its `storm` states none.
-fn plan_of(fault: &Table, items: Vec<Item>) -> Option<Plan>
+fn entry_plan_of(fault: &Table, items: Vec<Item>) -> Option<Plan>
     ensures { option_map failing_of result
         ≡ option_map (λ storm. unwrap_or storm (changing (map change_of items.items))) (stated_storm (table_view fault.now)) }
 {

@@ -3,7 +3,7 @@ use Rattle.std.proofs.Common.{◌≡◌, inl, inr, ℕ, ◌+◌, ◌*◌, ◌<�
 use Rattle.std.specs.Prelude.{ℤ, Some}
 use Rattle.sift_buffer.specs.Conduct.{never, with_entered}
 use Rattle.sift_buffer.specs.Conduct.{Conduct as Acts}
-use Rattle.sift_buffer.specs.Views.{View, PortMaySay, PortMayHear, view_with_said, view_with_heard, KeepsOwn, EntersAfterRound, FindsBehind, Turns}
+use Rattle.sift_buffer.specs.Views.{View, PortMaySay, PortMayHear, view_with_said, view_with_heard, KeepsOwn, EntersAfterLooks, FindsBehind, Turns}
 use Rattle.sift_skew.specs.Leading.{OffsetsChangeLittle}
 use Rattle.sift_mission.specs.Data.{FlownMission}
 use Rattle.sift_mission.specs.Slots.{StormsCome}
@@ -31,8 +31,8 @@ looks_flying : (v v' : View) → v.conduct.left ≡ never → KeepsOwn v v' → 
 looks_flying v v' flew own = ap (λ (c : Acts). c.left) own.conduct ∙ flew
 
 -- and so it does where it has entered
-enters_flying : (v v' : View) → v.conduct.left ≡ never → EntersAfterRound v v' → v'.conduct.left ≡ never
-enters_flying v v' flew e = ap (λ (z : View). z.conduct.left) e.after ∙ looks_flying v e.before flew e.round.own
+enters_flying : (v v' : View) → v.conduct.left ≡ never → EntersAfterLooks v v' → v'.conduct.left ≡ never
+enters_flying v v' flew e = ap (λ (z : View). z.conduct.left) e.after ∙ looks_flying v e.before flew e.found_none.own
 
 module _ (m : FlownMission) (fit : Fits m) (b : Desk) (end : is_end m b ≡ true) where
   -- to the next subframe
@@ -81,7 +81,7 @@ module _ (m : FlownMission) (fit : Fits m) (b : Desk) (end : is_end m b ≡ true
         let up = frame_low m.period b.frame m.frames room in omega arith
 
     -- it has moved, where frames are left
-    pub enter_moves : (v v' : View) → v.conduct.left ≡ never → EntersAfterRound v v' → (b'.frame ≡ m.frames → ⊥) → HasMoved m b v b' v'
+    pub enter_moves : (v v' : View) → v.conduct.left ≡ never → EntersAfterLooks v v' → (b'.frame ≡ m.frames → ⊥) → HasMoved m b v b' v'
     enter_moves v v' flew e more = record {
       call = entered e;
       unfinished = (let most = r'.frame in let ne = more in omega arith);
@@ -90,7 +90,7 @@ module _ (m : FlownMission) (fit : Fits m) (b : Desk) (end : is_end m b ≡ true
     }
 
     -- and landed, where none is
-    pub enter_lands : (v v' : View) → v.conduct.left ≡ never → EntersAfterRound v v' → StormsCome m → IsEarly m b' → b'.frame ≡ m.frames → HasLanded m b v b' v'
+    pub enter_lands : (v v' : View) → v.conduct.left ≡ never → EntersAfterLooks v v' → StormsCome m → IsEarly m b' → b'.frame ≡ m.frames → HasLanded m b v b' v'
     enter_lands v v' flew e come early done = record {
       ended = done;
       cause = inr (room, e);

@@ -4,7 +4,7 @@ use Rattle.std.specs.Prelude.{slice_set}
 use Rattle.sift_base.specs.Units.{has, unit_limit}
 use Rattle.sift_buffer.specs.Conduct.{Conduct as Acts}
 use Rattle.sift_buffer.specs.Conditions.{MaySay, MayHear, MayEnter}
-use Rattle.sift_buffer.specs.Views.{View, view_with_said, view_with_heard, view_with_entered, view_with_turned, KeepsOwn, EntersAfterRound, Turns, at_once, after_round}
+use Rattle.sift_buffer.specs.Views.{View, view_with_said, view_with_heard, view_with_entered, view_with_turned, KeepsOwn, EntersAfterLooks, Turns, at_once, after_looks}
 use Rattle.sift_mission.specs.Data.{FlownMission}
 use Rattle.sift_mission.specs.Fits.{Fits}
 use Rattle.sift_unit_frame.specs.Tidings.{word_to}
@@ -54,7 +54,7 @@ pub record TurnsFrom (v v' : View) : Type 0 where
 
 turns_from : (v v' : View) → Turns v v' → TurnsFrom v v'
 turns_from v v' (at_once start e) = record { before = v; own = record { ranges = refl; unit = refl; conduct = refl; looks = omega arith }; after = e }
-turns_from v v' (after_round before low none e) = record { before = before; own = none.own; after = e }
+turns_from v v' (after_looks before low none e) = record { before = before; own = none.own; after = e }
 
 -- a board is the same as itself
 same_itself : (b : TheBoard) → IsSameBoard b b
@@ -109,9 +109,9 @@ module _ (m : FlownMission) (b : TheBoard) (v : View) (d : Drives m b v) (early 
   early_there b' on flies = early_on m (desk_of b) (desk_of b') on.same.unit early (λ last storm. flies (last, d.storm ∙ storm)) on.frame
 
   -- so one that goes on after a round of looks has entered it
-  pub enter_drives : (b' : TheBoard) (v' : View) → GoesOn m b b' → (TurnsNext m b → ⊥) → EntersAfterRound v v' → Drives m b' v'
+  pub enter_drives : (b' : TheBoard) (v' : View) → GoesOn m b b' → (TurnsNext m b → ⊥) → EntersAfterLooks v v' → Drives m b' v'
   enter_drives b' v' on flies e =
-      let own = e.round.own in
+      let own = e.found_none.own in
       subst (λ z. Drives m b' z) (sym e.after) (flies_on b' (view_with_entered e.before) on.same (early_there b' on flies) own.unit own.ranges
       (on.going e.before.conduct (looks_going m (desk_of b) v e.before own flies_here.going)))
 

@@ -2,7 +2,7 @@
 use Rattle.std.specs.Prelude.{◌≡◌, ◌⊎◌, ℕ, ◌<◌, ◌≤◌, Option, Some, None}
 use Rattle.sift_buffer.specs.Conditions.{MayTurn}
 use Rattle.sift_buffer.specs.Conduct.{never}
-use Rattle.sift_buffer.specs.Views.{View, PortMaySay, PortMayHear, view_with_said, view_with_heard, EntersAfterRound, FindsBehind, Turns}
+use Rattle.sift_buffer.specs.Views.{View, PortMaySay, PortMayHear, view_with_said, view_with_heard, EntersAfterLooks, FindsBehind, Turns}
 use Rattle.sift_mission.specs.Data.{FlownMission}
 use Rattle.sift_unit.specs.Desk.{Desk}
 use Rattle.sift_unit.specs.Passing.{distance}
@@ -16,7 +16,7 @@ pub data OneCall (b : Desk) (v : View) (b' : Desk) (v' : View) : Type 0 where
       → OneCall b v b' v'
   heard : (k p s : ℕ) (w : Option ℕ) → PortMayHear v p k b.frame s → v' ≡ view_with_heard v b.frame k p s w → b'.subframe ≡ b.subframe → b'.frame ≡ b.frame
       → OneCall b v b' v'
-  entered : EntersAfterRound v v' → OneCall b v b' v'
+  entered : EntersAfterLooks v v' → OneCall b v b' v'
 
 -- the unit moved: by one call, nearer to the flight's end, and not to it; and it flies
 pub record HasMoved (m : FlownMission) (b : Desk) (v : View) (b' : Desk) (v' : View) : Type 0 where
@@ -45,7 +45,7 @@ pub record HasTurned (m : FlownMission) (b : Desk) (v : View) (b' : Desk) (v' : 
 -- the unit has entered the end: before, and then nothing has changed, or by this one call; it flies, and has no storm
 pub record HasLanded (m : FlownMission) (b : Desk) (v : View) (b' : Desk) (v' : View) : Type 0 where
   pub ended : b'.frame ≡ m.frames
-  pub cause : ((b' ≡ b) × (v' ≡ v)) ⊎ ((b.frame < m.frames) × EntersAfterRound v v')
+  pub cause : ((b' ≡ b) × (v' ≡ v)) ⊎ ((b.frame < m.frames) × EntersAfterLooks v v')
   pub flies : v'.conduct.left ≡ never
   pub calm : m.storm b'.unit ≡ None
 

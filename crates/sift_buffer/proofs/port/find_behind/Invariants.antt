@@ -9,5 +9,5 @@ invariant-loop-number g l = record {
   follows : g.L.Look.follows l.fn.port [] l.port;
   steps : g.L.Look.makes l.fn.port (others_below (g.L.Look.view l.fn.port).unit l.number) l.port;
   within : l.number ≤ l.units;
-  round : LooksRound (g.L.Look.view l.fn.port) l.number (g.L.Look.view l.port);
+  looks_round : LooksRound (g.L.Look.view l.fn.port) l.number (g.L.Look.view l.port);
 }

@@ -1,14 +1,14 @@
 use Rattle.std.proofs.Common.{◌<◌, add-one, arith}
 use Rattle.std.proofs.lemmas.Result.{IfOk-weaker}
 use Rattle.sift_byz.specs.Charts.{ShowsResults}
-use Rattle.sift_byz.specs.Plan.{plan_of}
+use Rattle.sift_byz.specs.Plan.{byz_plan_of}
 use Rattle.sift_byz.proofs.Charts.{round_more}
 use Rattle.sift_byz.proofs.exchanging.+agree_on.Goals as goal
 
 -- the chart is folded from the longer results, which have a round fewer behind them
 pub returns : goal.returns
 returns t c =
-    let plan = plan_of c.args.plan.now in
+    let plan = byz_plan_of c.args.plan.now in
     let some : 0 < c.args.rounds = omega (arith, c.if-rounds-eq0.false) in
     let folded = c.fold.ensures in
     IfOk-weaker c.fold.result _ (λ chart. ShowsResults plan c.args.count c.args.rounds chart.items)

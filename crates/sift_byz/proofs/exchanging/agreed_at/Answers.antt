@@ -3,7 +3,7 @@ use Rattle.std.proofs.lemmas.List.{get_or_default}
 use Rattle.std.proofs.lemmas.Nat.{mod_below}
 use Rattle.sift_vote.specs.Majority.{agreed_of}
 use Rattle.sift_byz.specs.Charts.{path_in, relay_at}
-use Rattle.sift_byz.specs.Plan.{all_units, plan_of}
+use Rattle.sift_byz.specs.Plan.{all_units, byz_plan_of}
 use Rattle.sift_byz.specs.Relaying.{outside}
 use Rattle.sift_byz.proofs.Digits.{few_rows, relay_within}
 use Rattle.sift_byz.proofs.exchanging.agreed_at.Goals as goal
@@ -26,7 +26,7 @@ pub returns : goal.returns
 returns c =
     let is : c.index-heard-place.result ≡ get_or c.args.heard.now c.args.place None =
     c.index-heard-place.is ∙ get_or_default c.args.heard.now c.args.place c.index-heard-place.result None c.requires.within in
-    let plan = plan_of c.args.plan.now in
+    let plan = byz_plan_of c.args.plan.now in
     let relays_of : ℕ → List (Option ℕ) = λ n. map (relay_at plan c.args.longer.now (c.args.place / n) (c.args.place % n))
     (outside (all_units plan) (c.args.place % n ∷ path_in n c.args.count (c.args.place / n))) in
     let relays : c.deref-2.result.now ≡ relays_of c.from-units.result =

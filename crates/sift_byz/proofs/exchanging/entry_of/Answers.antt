@@ -2,7 +2,7 @@ use Rattle.std.proofs.Common.{◌≡◌, ℕ, ◌+◌, ◌*◌, ◌<◌, [], ◌
 use Rattle.std.proofs.lemmas.Bool.{ne_eqb}
 use Rattle.std.proofs.lemmas.List.{get_or_default}
 use Rattle.sift_vote.specs.Majority.{agreed_of}
-use Rattle.sift_byz.specs.Plan.{plan_of}
+use Rattle.sift_byz.specs.Plan.{byz_plan_of}
 use Rattle.sift_byz.proofs.Charts.{result_shown}
 use Rattle.sift_byz.proofs.Digits.{digit_below, square}
 use Rattle.sift_byz.proofs.exchanging.entry_of.Goals as goal
@@ -19,4 +19,4 @@ returns c =
     rw (ne_eqb c.args.s c.args.q c.if-s-q.false)
     (c.agree.ensures.exact ∙ ap (λ x. agreed_of (x ∷ []))
     (is ∙ get_or_default c.args.results.now at c.index-results-from.result None within
-    ∙ result_shown (plan_of c.args.plan.now) c.args.plan.now.m c.args.results.now c.requires.results.shown c.args.q c.args.s c.requires.unit c.requires.other))
+    ∙ result_shown (byz_plan_of c.args.plan.now) c.args.plan.now.m c.args.results.now c.requires.results.shown c.args.q c.args.s c.requires.unit c.requires.other))

@@ -2,7 +2,7 @@ use Rattle.std.proofs.Common.{◌≡◌, ◌+◌, ◌*◌, ◌≤◌, length, ma
 use Rattle.std.specs.List.{range_with_len}
 use Rattle.std.proofs.Math.Nat.{mul-le-mul}
 use Rattle.sift_byz.specs.Charts.{heard_at}
-use Rattle.sift_byz.specs.Plan.{plan_of}
+use Rattle.sift_byz.specs.Plan.{byz_plan_of}
 use Rattle.sift_byz.proofs.Charts.{heard_shown}
 use Rattle.sift_byz.proofs.Digits.{few_places}
 use Rattle.sift_byz.proofs.Growing.{grown, room_left}
@@ -32,7 +32,7 @@ heard_at-requires c = record { range = c.requires.range; short = c.requires.shor
 pub loop-place-preserved : goal.loop-place-preserved
 loop-place-preserved c =
     record {
-      filled = grown (heard_at (plan_of c.args.plan.now) c.args.count c.args.before.now) _ _ _ _ c.loop-place.invariant.filled
+      filled = grown (heard_at (byz_plan_of c.args.plan.now) c.args.count c.args.before.now) _ _ _ _ c.loop-place.invariant.filled
           c.push_reserved.ensures.items c.heard_at.ensures;
       each = c.push_reserved.ensures.len ∙ ap (λ n. n + 1) c.loop-place.invariant.each;
       room = rw c.push_reserved.ensures.capacity c.loop-place.invariant.room;
@@ -43,5 +43,5 @@ pub returns : goal.returns
 returns c =
     let end : c.loop-place.place ≡ length c.args.before.now * c.from.result = omega (arith, c.loop-place.auto, c.loop-place-test.false) in
     let all : c.loop-place.place ≡ length c.args.before.now * c.args.plan.now.units = end ∙ ap (λ n. length c.args.before.now * n) c.from.ensures in
-    heard_shown (plan_of c.args.plan.now) c.requires.range.some c.args.count c.args.before.now c.loop-place.chart.items c.requires.heard
-    (c.loop-place.invariant.filled ∙ ap (λ n. map (heard_at (plan_of c.args.plan.now) c.args.count c.args.before.now) (range_with_len 0 n)) all)
+    heard_shown (byz_plan_of c.args.plan.now) c.requires.range.some c.args.count c.args.before.now c.loop-place.chart.items c.requires.heard
+    (c.loop-place.invariant.filled ∙ ap (λ n. map (heard_at (byz_plan_of c.args.plan.now) c.args.count c.args.before.now) (range_with_len 0 n)) all)

@@ -1,7 +1,7 @@
 use Rattle.std.proofs.Common.{◌≡◌, ◌<◌, ◌+◌, ℕ, get_or, length, map, ap, ◌∙◌, Some, Option, arith}
 use Rattle.std.specs.List.{range_with_len}
 use Rattle.std.proofs.lemmas.List.{get_or_default}
-use Rattle.sift_byz.specs.Plan.{plan_of, value_of}
+use Rattle.sift_byz.specs.Plan.{byz_plan_of, value_of}
 use Rattle.sift_byz.proofs.Charts.{own_shown}
 use Rattle.sift_byz.proofs.Growing.{grown, room_left}
 use Rattle.sift_byz.proofs.exchanging.own_values.Goals as goal
@@ -24,7 +24,7 @@ loop-unit-preserved c =
     let is : c.index-deref-unit.result ≡ get_or values unit 0 =
     (rw c.deref.ensures.0 at c.index-deref-unit.is) ∙ get_or_default values unit c.index-deref-unit.result 0 low in
     record {
-      filled = grown (λ u. Some (value_of (plan_of c.args.plan.now) u)) _ _ _ _ c.loop-unit.invariant.filled c.push_reserved.ensures.items (ap Some is);
+      filled = grown (λ u. Some (value_of (byz_plan_of c.args.plan.now) u)) _ _ _ _ c.loop-unit.invariant.filled c.push_reserved.ensures.items (ap Some is);
       each = c.push_reserved.ensures.len ∙ ap (λ n. n + 1) c.loop-unit.invariant.each;
       room = rw c.push_reserved.ensures.capacity c.loop-unit.invariant.room;
     }
@@ -32,9 +32,9 @@ loop-unit-preserved c =
 -- all values stand there
 pub returns : goal.returns
 returns c =
-    let own : ℕ → Option ℕ = λ u. Some (value_of (plan_of c.args.plan.now) u) in
+    let own : ℕ → Option ℕ = λ u. Some (value_of (byz_plan_of c.args.plan.now) u) in
     let all : c.loop-unit.unit ≡ c.args.plan.now.units = omega (arith, c.loop-unit.auto, c.loop-unit-test.false, c.from-unit-end.ensures) in
-    own_shown (plan_of c.args.plan.now) c.requires.some c.loop-unit.chart.items (c.loop-unit.invariant.filled ∙ ap (λ n. map own (range_with_len 0 n)) all)
+    own_shown (byz_plan_of c.args.plan.now) c.requires.some c.loop-unit.chart.items (c.loop-unit.invariant.filled ∙ ap (λ n. map own (range_with_len 0 n)) all)
 
 pub bounds-deref-unit : goal.bounds-deref-unit
 bounds-deref-unit c = rw (c.deref.ensures.0, c.requires.valued) (rw c.from-unit-end.ensures at c.loop-unit-test.true)

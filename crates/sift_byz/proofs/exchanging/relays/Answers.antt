@@ -3,7 +3,7 @@ use Rattle.std.specs.List.{range_with_len}
 use Rattle.std.proofs.lemmas.List.{append-nil, get_or_default, map-append}
 use Rattle.sift_base.specs.Units.{has}
 use Rattle.sift_byz.specs.Charts.{relay_at}
-use Rattle.sift_byz.specs.Plan.{plan_of}
+use Rattle.sift_byz.specs.Plan.{byz_plan_of}
 use Rattle.sift_byz.specs.Relaying.{outside}
 use Rattle.sift_byz.proofs.Outside.{outside_more}
 use Rattle.sift_byz.proofs.exchanging.relays.Goals.{then-is_outside, else-is_outside}
@@ -13,7 +13,7 @@ use Rattle.sift_byz.proofs.exchanging.relays.Goals as goal
 pub loop-r-preserved : goal.loop-r-preserved
 loop-r-preserved c =
     let path : List ℕ = c.args.to ∷ c.args.path.now in
-    let relay = relay_at (plan_of c.args.plan.now) c.args.longer.now c.args.row c.args.to in
+    let relay = relay_at (byz_plan_of c.args.plan.now) c.args.longer.now c.args.row c.args.to in
     let r : ℕ = c.loop-r.r in
     let step : suc r ≡ r + 1 = omega arith in
     let more : map relay (outside (range_with_len 0 r) path) ++ map relay (outside (r ∷ []) path) ≡ map relay (outside (range_with_len 0 (r + 1)) path) =

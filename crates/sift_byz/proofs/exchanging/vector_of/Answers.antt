@@ -1,6 +1,6 @@
 use Rattle.std.proofs.Common.{◌≡◌, map, arith, ap, ◌∙◌}
 use Rattle.std.specs.List.{range_with_len}
-use Rattle.sift_byz.specs.Plan.{entry, plan_of}
+use Rattle.sift_byz.specs.Plan.{entry, byz_plan_of}
 use Rattle.sift_byz.proofs.Growing.{grown}
 use Rattle.sift_byz.proofs.exchanging.vector_of.Goals as goal
 
@@ -8,7 +8,7 @@ use Rattle.sift_byz.proofs.exchanging.vector_of.Goals as goal
 pub loop-s-preserved : goal.loop-s-preserved
 loop-s-preserved c =
     record {
-      filled = grown (entry (plan_of c.args.plan.now) c.args.q) _ _ _ _ c.loop-s.invariant.filled c.push.ensures.items c.entry_of.ensures;
+      filled = grown (entry (byz_plan_of c.args.plan.now) c.args.q) _ _ _ _ c.loop-s.invariant.filled c.push.ensures.items c.entry_of.ensures;
       long = omega (arith, c.push.ensures.len, c.loop-s.invariant.long);
     }
 
@@ -16,4 +16,4 @@ loop-s-preserved c =
 pub returns : goal.returns
 returns c =
     let all : c.loop-s.s ≡ c.args.plan.now.units = omega (arith, c.loop-s.auto, c.loop-s-test.false) in
-    c.loop-s.invariant.filled ∙ ap (λ n. map (entry (plan_of c.args.plan.now) c.args.q) (range_with_len 0 n)) all
+    c.loop-s.invariant.filled ∙ ap (λ n. map (entry (byz_plan_of c.args.plan.now) c.args.q) (range_with_len 0 n)) all

@@ -49,8 +49,8 @@ broken-requires c =
     omega (arith, c.len-place.ensures, c.loop-items.entries.ok.0, c.loop-items.invariant.1, turn.0, many.1, c.requires.few)
 
 -- a `storm` states none
-pub returns-in-None-plan_of-clause-tests : goal.returns-in-None-plan_of-clause-tests
-returns-in-None-plan_of-clause-tests c =
+pub returns-in-None-entry_plan_of-clause-tests : goal.returns-in-None-entry_plan_of-clause-tests
+returns-in-None-entry_plan_of-clause-tests c =
     let turn =
     YieldsList-turn (YieldsList-from_vec {s = c.into_iter-items-iterator.result} c.args.said.items (search rules) (search rules))
     c.loop-items.yielded c.loop-items.items-iterator c.loop-items.yielded_by c.next.result c.next.new.self c.in-Some.items c.in-Some.is c.next.ensures.steps in
@@ -62,7 +62,7 @@ returns-in-None-plan_of-clause-tests c =
     as_many (λ fault. table_view fault.now) (λ items. map change_of items.items) c.args.tables.now c.args.heads.now c.args.said.items c.requires.read in
     let there : i < length c.args.tables.now = rw many.1 low in
     let none = unplanned_storm (stated_storm (table_view c.index-tables-place.result.now)) (λ storm. failing_from storm (map change_of c.in-Some.items.items))
-    (rw c.in-None-plan_of.is at c.plan_of.ensures) in
+    (rw c.in-None-entry_plan_of.is at c.entry_plan_of.ensures) in
     rw (c.broken.ensures, place)
     (first_broken 30 _ _
     (holds_here (λ fault. table_view fault.now) c.args.tables.now (λ at fault. stated_storm fault ≡ None) i c.index-tables-place.result there table_is none)
@@ -83,12 +83,12 @@ loop-items-preserved c =
     as_many (λ fault. table_view fault.now) (λ items. map change_of items.items) c.args.tables.now c.args.heads.now c.args.said.items c.requires.read in
     let there : i < length c.args.tables.now = rw many.1 low in
     let storms = stated_storm (table_view c.index-tables-place.result.now) in
-    let planned : Some (failing_of c.in-Some-plan_of.plan) ≡ option_map (λ storm. failing_from storm (map change_of c.in-Some.items.items)) storms =
-    rw c.in-Some-plan_of.is at c.plan_of.ensures in
+    let planned : Some (failing_of c.in-Some-entry_plan_of.plan) ≡ option_map (λ storm. failing_from storm (map change_of c.in-Some.items.items)) storms =
+    rw c.in-Some-entry_plan_of.is at c.entry_plan_of.ensures in
     let made =
     fault_taken (λ fault. table_view fault.now) (λ items. map change_of items.items) c.args.tables.now c.args.heads.now c.args.said.items c.requires.read i
-    c.index-tables-place.result c.in-Some.items (failing_of c.in-Some-plan_of.plan) low table_is items_is planned in
-    let added = c.in_ok-push-in-Some-plan_of.ensures.items in
+    c.index-tables-place.result c.in-Some.items (failing_of c.in-Some-entry_plan_of.plan) low table_is items_is planned in
+    let added = c.in_ok-push-in-Some-entry_plan_of.ensures.items in
     let long : length c.push.new.self.items ≡ i + 1 = rw (added, length-append) (omega arith) in (
       rw long (read_more fault_of (λ fault. fault_in (table_view fault.now)) c.args.tables.now c.loop-items.entries.items c.push.new.self.items i _ _
           there table_is c.loop-items.invariant.0 added (rw place made)),

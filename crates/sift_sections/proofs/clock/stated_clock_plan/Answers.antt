@@ -6,7 +6,7 @@ use Rattle.sift_document.specs.laws.Order.{stopped}
 use Rattle.sift_sections.specs.Clock.{clock_rules}
 use Rattle.sift_sections.proofs.ClockTests.{clock_kept, clocks_read, drift_kept, drift_refused, errors_kept, errors_refused, figure_refused, start_kept, start_refused, units_refused}
 use Rattle.sift_sections.proofs.Figures.{few_error, few_length, few_rate, few_skew}
-use Rattle.sift_sections.proofs.clock.stated_plan.Goals as goal
+use Rattle.sift_sections.proofs.clock.stated_clock_plan.Goals as goal
 
 -- the value is no table of a clock
 pub returns-in_err-clock-clause-tests : goal.returns-in_err-clock-clause-tests

@@ -1,5 +1,0 @@
-use Rattle.sift_byz.proofs.Answered.{one_plan}
-use Rattle.sift_byz.proofs.vectors.one_plan.Goals as goal
-
-pub returns : goal.returns
-returns c = one_plan

@@ -1,5 +1,0 @@
-use Rattle.sift_byz.proofs.Answered.{stated_plans_are_lawful}
-use Rattle.sift_byz.proofs.vectors.stated_plans_are_lawful.Goals as goal
-
-pub returns : goal.returns
-returns c = stated_plans_are_lawful
