@@ -18,6 +18,7 @@ pub mod Passes
 pub mod Sound
 pub mod Lengths
 pub mod Emitted
+pub mod Keeping
 pub mod Allowed
 pub mod Refused
 pub mod Steps

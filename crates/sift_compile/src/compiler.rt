@@ -1,15 +1,13 @@
 //! The compiler: code of a task within the limits, or why there is none.
 
 ghost use Rattle.std.specs.Prelude.{◌≡◌, ◌<◌, ◌≤◌, length, Err, IsOk, IfOk, IfErr};
-ghost use Rattle.sift_code.specs.Bound.{bound_of, kept};
 ghost use Rattle.sift_lang.specs.Tree.{tree_of};
 ghost use Rattle.sift_lang.specs.Sound.{IsSound};
 ghost use Rattle.sift_compile.specs.Code.{task_code, task_program};
 ghost use Rattle.sift_compile.specs.Correct.{IsMeasured, Means, CodeIsSound, CodeMeansItsTask};
-ghost use Rattle.sift_compile.specs.Length.{code_limit};
-ghost use Rattle.sift_compile.specs.Stop.{IsAllowed, Stops};
+ghost use Rattle.sift_compile.specs.Stop.{IsAllowed, IsOver, Stops};
 
-use crate::emit::{block_length, emit_block};
+use crate::emit::{Count, block_takes, emit_block};
 use sift_base::NoMemory;
 use sift_code::{Bad, Checked, verify};
 use sift_lang::Task;
@@ -46,8 +44,8 @@ impl From<NoMemory> for CompileStop {
 
 /// Compiles a task, which may name so many sensors and voted words.
 ///
-/// Its code may have 1,024 instructions, and a run of it may take as many as the budget. The length is
-/// tested first, before any memory is asked for.
+/// Its code may have 1,024 instructions, and a run of it may take as many as the budget. Both limits are
+/// tested before any memory is asked for, the length first.
 pub fn compile(
     alloc: Global,
     task: &Task,
@@ -63,30 +61,28 @@ pub fn compile(
     ensures stopped { IfErr result (Stops budget (task_code (tree_of task.now))) }
     // The length of the code, and the bound of its steps, can be read off the task's tree.
     ensures measured { IsMeasured (tree_of task.now) }
-    // A code that is too long is known without memory.
-    ensures too_long { let len = length (task_code (tree_of task.now)) in
-        code_limit < len → result ≡ Err (CompileStop.CodeTooLong (kept len)) }
+    // A code over a limit is told so, whatever memory there is.
+    ensures over { (stop : CompileStop) → IsOver budget (task_code (tree_of task.now)) stop → result ≡ Err stop }
 {
-    let len = block_length(&task.body);
+    test_limits(task, budget)?;
+    Ok(check(alloc, task, sensors, words)?)
+}
+
+/// Tests the two limits of a task's code, by what its tree tells. It asks for no memory, so none is wanting.
+fn test_limits(task: &Task, budget: u32) -> Result<(), CompileStop>
+    requires { budget < 4294967295 }
+    ensures allowed { IsOk result → IsAllowed budget (task_code (tree_of task.now)) }
+    ensures over { IfErr result (IsOver budget (task_code (tree_of task.now))) }
+{
+    let len = block_takes(Count::Instructions, &task.body);
     if len > CODE_LIMIT {
         return Err(CompileStop::CodeTooLong { len });
     }
-    let checked = check(alloc, task, sensors, words)?;
-    within_budget(checked, budget)
-}
-
-/// The code, where a run of it takes no more instructions than the budget. It asks for no memory, so none is wanting.
-fn within_budget(code: Checked, budget: u32) -> Result<Checked, CompileStop>
-    requires { budget < 4294967295 }
-    ensures same { IfOk result (λ checked. checked ≡ code) }
-    ensures quick { IsOk result → bound_of code.code ≤ budget }
-    ensures slow { IfErr result (λ stop. (stop ≡ CompileStop.TooManySteps (kept (bound_of code.code))) × (budget < bound_of code.code)) }
-{
-    let bound = code.bound();
+    let bound = block_takes(Count::Steps, &task.body);
     if bound > budget {
         return Err(CompileStop::TooManySteps { bound });
     }
-    Ok(code)
+    Ok(())
 }
 
 /// The code of a task, checked.
