@@ -1,5 +1,5 @@
 -- What holds of rows holds of those of commands that stand for theirs.
-use Rattle.std.proofs.Common.{◌≡◌, ap, refl, sym, ◌∙◌}
+use Rattle.std.proofs.Common.{◌≡◌, ap, sym, ◌∙◌}
 use Rattle.sift_row.specs.Laws.{AreKept}
 use Rattle.sift_row.specs.Rows.{Rows, standing_for}
 

@@ -4,9 +4,9 @@ use Rattle.sift_io.specs.Flow.{Rose}
 use Rattle.sift_mission.specs.Data.{MissionData}
 use Rattle.sift_reply.specs.Duty.{IsOwedTo}
 use Rattle.sift_reply.specs.Laws.{AsksOne}
-use Rattle.sift_reply.specs.Promise.{IsCertain, IsOwed}
+use Rattle.sift_reply.specs.Promise.{IsOwed}
 use Rattle.sift_reply.specs.Reply.{Input, IsGiven, Output, Reply, done_status, no_memory_status, read_fault, sink_fault_status}
-use Rattle.sift_row.specs.Laws.{AreKept, DoesEachMission, IsStated, MissionsAreAnswered, MissionsEndWell}
+use Rattle.sift_row.specs.Laws.{AreKept, IsStated, MissionsAreAnswered, MissionsEndWell}
 use Rattle.sift_row.specs.Row.{GivesFor, ReadsMission}
 use Rattle.sift_row.specs.Rows.{Rows, commands_of}
 

@@ -1,5 +1,5 @@
 -- What follows of what a command reads and gives for all that it has to do.
-use Rattle.std.proofs.Common.{◌≡◌, ◌≤◌, ◌<◌, ◌⊎◌, inl, inr, ℕ, List, [], ◌∷◌, length, Contains, true, Some, refl, subst, ap, sym, ◌∙◌, arith}
+use Rattle.std.proofs.Common.{◌≡◌, ◌≤◌, inl, inr, ℕ, List, [], ◌∷◌, length, Contains, Some, refl, subst, ap, sym, arith}
 use Rattle.std.proofs.lemmas.Grind.{common_steps}
 use Rattle.sift_load.proofs.lemmas.Loading.{one_reply, statuses_are_own}
 use Rattle.sift_load.specs.Laws.{OneMissionIsStated, StatedMissionsAreUnrefused}

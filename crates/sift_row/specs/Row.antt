@@ -1,5 +1,5 @@
 -- What a command is: its row.
-use Rattle.std.specs.Prelude.{ℕ, ◌≡◌, List, [], ◌∷◌, ◌++◌, ⊤, Bool, true, Contains, Option, Some, None}
+use Rattle.std.specs.Prelude.{ℕ, ◌≡◌, List, ◌∷◌, ◌++◌, ⊤, Bool, true, Contains, Option, Some, None}
 use Rattle.sift_flight.specs.Flight.{HasNoStorms}
 use Rattle.sift_load.specs.Loads.{States, mission_duty, no_mission_statuses}
 use Rattle.sift_mission.specs.Data.{MissionData}

@@ -1,5 +1,5 @@
 -- The commands of a list of rows.
-use Rattle.std.specs.Prelude.{ℕ, ◌≡◌, List, [], ◌∷◌, ◌++◌, ◌&&◌, Bool, true, not, bytes_eq}
+use Rattle.std.specs.Prelude.{ℕ, List, [], ◌∷◌, ◌++◌, ◌&&◌, Bool, true, not, bytes_eq}
 use Rattle.std.specs.List.{list_any}
 use Rattle.sift_flight.specs.Flight.{HasNoStorms}
 use Rattle.sift_load.specs.Loads.{States}

@@ -1,4 +1,4 @@
-use Rattle.std.proofs.Common.{List, refl}
+use Rattle.std.proofs.Common.{refl}
 use Rattle.sift_alone.specs.laws.Both.{map_ok}
 use Rattle.sift_alone.proofs.Asked.{asked_for}
 use Rattle.sift_alone.proofs.flying.tell_alone.Goals as goal
