@@ -1,7 +1,10 @@
 -- Which statuses a reply may have.
 use Rattle.std.proofs.Common.{◌≡◌, ◌≤◌, ◌<◌, ℕ, ◌⊎◌, inl, inr, List, [], length, get_or, Contains, Option, Some, None, All, ap, refl, arith}
 use Rattle.std.proofs.lemmas.List.Elements.{All-contains}
+use Rattle.std.proofs.lemmas.Bool.{leb-true}
 use Rattle.std.proofs.lemmas.Grind.{common_steps}
+use Rattle.std.proofs.lemmas.List.Sums.{AllPass-from_list_all}
+use Rattle.std.specs.Prelude.{nat_le}
 use Rattle.sift_load.specs.Loads.{no_mission_statuses}
 use Rattle.sift_commands.specs.declared.list.Command.{Command}
 use Rattle.sift_reply.specs.Duty.{Duty, HasOwnStatuses, IsOwedTo}
@@ -16,7 +19,7 @@ IsLow status = status ≤ last_status
 
 -- all that are listed are
 all_low : All IsLow listed.all_statuses
-all_low = grind (arith, common_steps)
+all_low = λ k d here. leb-true _ _ (AllPass-from_list_all (λ status. nat_le status last_status) listed.all_statuses refl k d here)
 
 -- and so are those with the ones of bytes that state no mission
 with_others : (does : Reads) (statuses : List ℕ) → All IsLow statuses → All IsLow (statuses_with does statuses)
