@@ -1,5 +1,5 @@
 -- Bytes state one mission, or none for one reason.
-use Rattle.std.proofs.Common.{◌≡◌, inl, inr, ℕ, List, ◌++◌, Contains, lit<, refl, sym, ap, ◌∙◌, subst, arith}
+use Rattle.std.proofs.Common.{◌≡◌, Result, Ok, Err, IfOk, IfErr, inl, inr, ℕ, List, ◌++◌, Contains, lit<, refl, sym, ap, ◌∙◌, subst, arith}
 use Rattle.std.proofs.lemmas.List.Elements.{Contains-append_left, Contains-append_right}
 use Rattle.toml.specs.Data.{Members}
 use Rattle.sift_mission.specs.Data.{MissionData}
@@ -13,7 +13,7 @@ use Rattle.sift_base.specs.Stop.{IfRefused}
 use Rattle.sift_base.specs.declared.stop.Stop.{Stop}
 use Rattle.sift_base.specs.declared.stop.Stop.TheVariants as stop
 use Rattle.sift_scenario.specs.declared.mission.Refused as document
-use Rattle.sift_load.specs.Loads.{LoadsThen, IsDocument, StatesNone, no_mission_of, no_mission_statuses, reply_to}
+use Rattle.sift_load.specs.Loads.{LoadsThen, IsDocument, States, StatesNone, mission_in, no_mission_statuses, reply_to}
 use Rattle.sift_load.specs.declared.loading.NoMission.{NoMission}
 use Rattle.sift_load.specs.declared.loading.NoMission.TheVariants.{NotADocument, Refused}
 
@@ -23,10 +23,19 @@ one_tree bytes one other reads reads' = cc (reads.1, reads'.1)
 
 -- a document that is refused states no mission, for that reason
 pub refused_so :
-    (bytes : List ℕ) (tree : Members) (why : Stop document.Refused) → IsDocument bytes tree → IfRefused (IsRefusedWith tree) why
-    → IfRefused (StatesNone bytes) (no_mission_of why)
-refused_so bytes tree (stop.Refused reason) reads refused = (tree, reads, refused)
-refused_so bytes tree stop.NoMemory reads wanting = tt
+    {M : Type 0} (bytes : List ℕ) (tree : Members) (read : Result M (Stop document.Refused)) → IsDocument bytes tree
+    → IfErr read (IfRefused (IsRefusedWith tree)) → IfErr (mission_in read) (IfRefused (StatesNone bytes))
+refused_so bytes tree (Ok mission) reads refused = tt
+refused_so bytes tree (Err (stop.Refused reason)) reads refused = (tree, reads, refused)
+refused_so bytes tree (Err stop.NoMemory) reads wanting = tt
+
+-- and one that states a mission is that of its bytes
+pub stated_so :
+    {M : Type 0} (data_in : M → MissionData) (bytes : List ℕ) (tree : Members) (read : Result M (Stop document.Refused)) → IsDocument bytes tree
+    → IfOk read (λ mission. IsMission tree (data_in mission)) → IfOk (mission_in read) (λ mission. States bytes (data_in mission))
+stated_so data_in bytes tree (Ok mission) reads states = (tree, reads, states)
+stated_so data_in bytes tree (Err (stop.Refused reason)) reads states = tt
+stated_so data_in bytes tree (Err stop.NoMemory) reads states = tt
 
 -- bytes state one mission
 pub one_stated : OneMission → OneMissionIsStated

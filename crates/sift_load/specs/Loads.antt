@@ -1,5 +1,5 @@
 -- What a command about a mission does: it loads the mission, and gives a reply for it, or tells why bytes state none.
-use Rattle.std.specs.Prelude.{ℕ, ◌≡◌, List, Some, IsUtf8, codes, [], ◌∷◌, ◌⊎◌}
+use Rattle.std.specs.Prelude.{ℕ, ◌≡◌, List, Some, Result, Ok, Err, IsUtf8, codes, [], ◌∷◌, ◌⊎◌}
 use Rattle.std.specs.Fmt.{decimal}
 use Rattle.std.specs.List.{concat}
 use Rattle.toml.specs.Data.{Members}
@@ -31,10 +31,11 @@ abbrev pub StatesNone : List ℕ → NoMission → Type 0
 StatesNone bytes NotADocument = (document : Members) → ¬ IsDocument bytes document
 StatesNone bytes (Refused reason) = (document : Members) × IsDocument bytes document × IsRefusedWith document reason
 
--- the refusal of a document as that of its bytes; or want of memory
-abbrev pub no_mission_of : Stop document.Refused → Stop NoMission
-no_mission_of (stop.Refused reason) = stop.Refused (Refused reason)
-no_mission_of stop.NoMemory = stop.NoMemory
+-- the mission that reading a document answered, or its refusal as that of its bytes; or want of memory, where that was answered
+abbrev pub mission_in : {M : Type 0} → Result M (Stop document.Refused) → Result M (Stop NoMission)
+mission_in (Ok mission) = Ok mission
+mission_in (Err (stop.Refused reason)) = Err (stop.Refused (Refused reason))
+mission_in (Err stop.NoMemory) = Err stop.NoMemory
 
 -- ---- the replies to bytes that state no mission
 

@@ -1,7 +1,7 @@
 //! The mission that the bytes of an input state, or why they state none, and the commands about it.
 
-ghost use Rattle.std.specs.Prelude.{◌≡◌, IfOk, IfErr};
-ghost use Rattle.sift_load.specs.Loads.{no_mission_of, reply_to, IsDocument, States, StatesNone, LoadsThen};
+ghost use Rattle.std.specs.Prelude.{◌≡◌, Ok, Err, IfOk, IfErr};
+ghost use Rattle.sift_load.specs.Loads.{mission_in, reply_to, IsDocument, States, StatesNone, LoadsThen};
 ghost use Rattle.sift_base.specs.Stop.{IfRefused};
 ghost use Rattle.sift_mission.specs.Parts.{data_of};
 ghost use Rattle.toml.specs.Data.{Members};
@@ -31,9 +31,10 @@ pub enum NoMission {
 }
 
 impl NoMission {
-    /// The reply to them: the statuses 3 to 7, each with its line.
+    /// The reply to them: the statuses 3 to 7, each with its line. Bytes that are no document are told so whatever memory there is.
     pub fn reply(self, alloc: Global) -> Result<Reply, NoMemory>
-        ensures { IfOk result (λ reply. reply ≡ reply_to self) }
+        ensures told { IfOk result (λ reply. reply ≡ reply_to self) }
+        ensures sure { self ≡ NoMission.NotADocument → result ≡ Ok (reply_to self) }
     {
         match self {
             NoMission::NotADocument => Ok(Reply::fixed(3, "not a document\n")),
@@ -88,21 +89,19 @@ pub fn read_document(alloc: Global, bytes: &[u8]) -> Result<Table, Stop<NoMissio
     ensures document { IfOk result (λ document. IsDocument bytes.now (table_view document)) }
     ensures refused { IfErr result (IfRefused (λ why. (why ≡ NoMission.NotADocument) × ((document : Members) → ¬ IsDocument bytes.now document))) }
 {
-    match toml::table_from_slice(alloc, bytes) {
-        Ok(document) => Ok(document),
-        Err(error) => Err(no_document(error)),
-    }
+    document_of(toml::table_from_slice(alloc, bytes))
 }
 
-/// What an error of the reader says: the bytes are no document, unless memory was wanting.
-fn no_document(error: toml::de::Error) -> Stop<NoMission>
-    ensures wanting { IsMemory error → result ≡ Stop.NoMemory }
-    ensures refused { ¬ IsMemory error → result ≡ Stop.Refused NoMission.NotADocument }
+/// The document that the reader answered, or that the bytes are none. Memory was wanting where the reader says so, and nowhere else.
+fn document_of(read: Result<Table, toml::de::Error>) -> Result<Table, Stop<NoMission>>
+    ensures document { (document : Table) → read ≡ Ok document → result ≡ Ok document }
+    ensures wanting { IfErr read (λ error. IsMemory error → result ≡ Err Stop.NoMemory) }
+    ensures refused { IfErr read (λ error. ¬ IsMemory error → result ≡ Err (Stop.Refused NoMission.NotADocument)) }
 {
-    if error.is_memory() {
-        Stop::NoMemory
-    } else {
-        Stop::Refused(NoMission::NotADocument)
+    match read {
+        Ok(document) => Ok(document),
+        Err(error) if error.is_memory() => Err(Stop::NoMemory),
+        Err(_) => Err(Stop::Refused(NoMission::NotADocument)),
     }
 }
 
@@ -112,19 +111,18 @@ pub fn load(alloc: Global, bytes: &[u8]) -> Result<Mission, Stop<NoMission>>
     ensures refused { IfErr result (IfRefused (StatesNone bytes.now)) }
 {
     let document = read_document(alloc, bytes)?;
-    match mission_of(alloc, &document) {
-        Ok(mission) => Ok(mission),
-        Err(stop) => Err(no_mission(stop)),
-    }
+    mission_in(mission_of(alloc, &document))
 }
 
-/// The refusal of a document as the reason why its bytes state no mission; or want of memory.
-fn no_mission(stop: Stop<Refused>) -> Stop<NoMission>
-    ensures { result ≡ no_mission_of stop }
+/// The mission that reading a document answered, or its refusal as the reason why its bytes state none. Memory was wanting where the answer
+/// says so, and nowhere else.
+fn mission_in(read: Result<Mission, Stop<Refused>>) -> Result<Mission, Stop<NoMission>>
+    ensures { result ≡ mission_in read }
 {
-    match stop {
-        Stop::Refused(reason) => Stop::Refused(NoMission::Refused(reason)),
-        Stop::NoMemory => Stop::NoMemory,
+    match read {
+        Ok(mission) => Ok(mission),
+        Err(Stop::Refused(reason)) => Err(Stop::Refused(NoMission::Refused(reason))),
+        Err(Stop::NoMemory) => Err(Stop::NoMemory),
     }
 }
 
@@ -155,8 +153,19 @@ pub fn begin_for_bytes<M: Drop, W: Work, J: MissionJob<M, W>>(
 {
     match load(alloc, bytes) {
         Ok(mission) => job.begin_for(alloc, means, mission),
-        Err(Stop::Refused(why)) => Ok(Begun::Replied(why.reply(alloc)?)),
-        Err(Stop::NoMemory) => Err(NoMemory),
+        Err(stop) => Ok(Begun::Replied(reply_without(alloc, stop)?)),
+    }
+}
+
+/// The reply where there is no mission: to the reason why bytes state none. Want of memory is handed on.
+fn reply_without(alloc: Global, stop: Stop<NoMission>) -> Result<Reply, NoMemory>
+    ensures told { IfRefused (λ why. IfOk result (λ reply. reply ≡ reply_to why)) stop }
+    ensures sure { stop ≡ Stop.Refused NoMission.NotADocument → result ≡ Ok (reply_to NoMission.NotADocument) }
+    ensures wanting { stop ≡ Stop.NoMemory → result ≡ Err NoMemory }
+{
+    match stop {
+        Stop::Refused(why) => why.reply(alloc),
+        Stop::NoMemory => Err(NoMemory),
     }
 }
 

@@ -27,4 +27,5 @@ pub mod UniqueForms
 pub mod UniqueRefusals
 pub mod Unshed
 pub mod Unrefused
+pub mod OverLimits
 pub mod WordCounts

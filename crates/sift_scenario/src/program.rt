@@ -1,6 +1,6 @@
 //! The program of the tasks of a document, with its code.
 
-ghost use Rattle.std.specs.Prelude.{◌≡◌, ◌≢◌, ◌<◌, ◌≤◌, ◌^◌, IfErr, IfOk, IsOk, length, map};
+ghost use Rattle.std.specs.Prelude.{◌≡◌, ◌≢◌, ◌<◌, ◌≤◌, ◌^◌, Err, IfErr, IfOk, IsOk, length, map};
 ghost use Rattle.sift_base.specs.Stop.{IfRefused};
 ghost use Rattle.std.specs.List.{flat_map, sum};
 ghost use Rattle.sift_code.specs.Bound.{bound_of};
@@ -12,7 +12,7 @@ ghost use Rattle.sift_parse.specs.Roll.{first_word, Roll, roll_of};
 ghost use Rattle.sift_document.specs.Rules.{AreMatched};
 ghost use Rattle.sift_compile.specs.Tasks.{AreCodesOf, IsCodeOf};
 ghost use Rattle.sift_scenario.specs.Program.{AreAllowed, IsTreeOf, step_limit, turn_of};
-ghost use Rattle.sift_scenario.specs.Refusal.{IsFirstRefused, IsNoTask, IsRefusedWith};
+ghost use Rattle.sift_scenario.specs.Refusal.{IsFirstRefused, IsNoTask, IsOver, IsRefusedWith};
 ghost use Rattle.sift_base.specs.Layout.{sensor_limit};
 ghost use Rattle.sift_base.specs.Shapes.{task_limit};
 ghost use Rattle.sift_scenario.specs.Testing.{AreTurns, IsCodeStop, form_of};
@@ -143,6 +143,8 @@ fn tree_code(alloc: Global, tree: &Task, task: usize, room: Room) -> Result<Chec
     ensures quick { IsOk result → task_steps (tree_of tree.now) ≤ room.left }
     ensures steps { IfOk result (λ code. bound_of code.code ≡ task_steps (tree_of tree.now)) }
     ensures refused { IfErr result (IsCodeStop room.left task (tree_of tree.now)) }
+    // Code over a limit is refused so, whatever memory there is.
+    ensures over { (refused : Refused) → IsOver room.left task (tree_of tree.now) refused → result ≡ Err (Stop.Refused refused) }
 {
     match compile(alloc, tree, room.sensors, room.words, room.left) {
         Ok(code) => Ok(code),
