@@ -105,10 +105,14 @@ class Schedule:
         self.memory = {}  # who says a slot under a configuration, and the right words of a slot
         self.texts = None
 
+    def due_words(self):
+        """The same as a report has it, of each frame all of one length."""
+        return [",".join([f"{word:04x}" for word in words]) or "-" for words in self.ideal]
+
     def due_texts(self):
-        """The same as a report's lines have it."""
+        """The same with what stands around it in a report's lines."""
         if self.texts is None:
-            self.texts = [f" out={','.join([f'{word:04x}' for word in words]) or '-'} bad=" for words in self.ideal]
+            self.texts = [f" out={words} bad=" for words in self.due_words()]
         return self.texts
 
     def executors(self, size):
