@@ -25,6 +25,7 @@ from sift.rules.loading import Refused, load, refusal, without_faults
 MODULES = (
     "__init__",
     "callers",
+    "forms",
     "random_faults",
     "where",
     *(f"campaigns/{name}" for name in ("__init__", "campaign", "faults", "findings", "flights", "flyer", "journal", "library")),
