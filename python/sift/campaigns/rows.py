@@ -96,7 +96,7 @@ class Row:
         self.cells = line.split("\t")
         number, fault, *shown, margin, wrong, first, _, self.judge, _ = self.cells[: len(BEFORE)]
         self.number = int(number)
-        self.faults = () if fault == NO_FAULT else tuple([told_of(each) for each in fault.split(" + ")])
+        self.faults = [] if fault == NO_FAULT else [told_of(each) for each in fault.split(" + ")]
         if None in self.faults:
             raise ValueError(fault)
         self.drawn = all([fault.drawn for fault in self.faults])  # so that each run is one of many like it
