@@ -1,5 +1,5 @@
-"""Puts into the package what it stands on: the version of all that is released, pages of docs/, and the program and its library
-where they are built."""
+"""Puts into the package what it stands on: the version of all that is released, pages of docs/, and the program, its library and the
+reader of reports where they are built."""
 import shutil
 from pathlib import Path
 
@@ -13,7 +13,7 @@ except ImportError:  # an older setuptools has it in a package of its own
 
 TOP = Path(__file__).resolve().parent.parent
 PAGES = ("byz.md", "faults.md", "judge.md", "mission.schema.json", "missions.md", "refusals.md", "tables.md", "tasks.md")
-BUILT = [name for name in ("sift", "libsift.so") if (TOP / "out" / name).exists()]
+BUILT = [name for name in ("sift", "libsift.so", "reader.so") if (TOP / "out" / name).exists()]
 
 
 class Bundle(build_py):

@@ -1,14 +1,16 @@
 """How the tools are called, read a file, and end."""
 import os
-import re
 import sys
 
 from sift import where
+from sift.forms import Form
+
+TOOL = Form(r"\btools/(?=(compare|explain|lint|odds|picture|sweep|words)\b)")
 
 
 def as_called(words):
     """Words that name tools as they are called in a clone, with the names that they have here: tools/words is installed as sift-words."""
-    return re.sub(r"\btools/(?=(compare|explain|lint|odds|picture|sweep|words)\b)", "sift-", words) if not where.IN_CLONE else words
+    return TOOL.sub("sift-", words) if not where.IN_CLONE else words
 
 
 def read_source(name):

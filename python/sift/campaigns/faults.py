@@ -1,5 +1,4 @@
 """The faults that a schedule is tried with: each unit, each slot that it says, each way of lying, each moment."""
-import re
 from bisect import bisect_right
 from collections import namedtuple
 from functools import lru_cache
@@ -7,9 +6,9 @@ from itertools import accumulate, combinations, repeat
 
 from sift.campaigns.ways import MOST_ITEMS, Said, is_made, ways_of
 from sift.documents.slots import FEWEST, HAPPENING, configurations_of, sayers
+from sift.forms import Form
 
-# A fault as a row tells it. It is compiled when the first row is read, while others fly.
-FAULT = (
+FAULT = Form(  # as a row tells it
     r"unit (?P<unit>[0-7]) (?P<slot>.+?) (?P<way>(?P<kind>wrong|silence|two-faces|flip|stuck|offset|drift|intermittent|storm)(?: (?P<value>-?\d+))?)"
     r"(?: to (?P<to>[0-7]+))? from (?P<begin>\d+)(?: for (?P<frames>\d+))?"
 )
@@ -55,7 +54,7 @@ class Told(namedtuple("Told", "unit slot way begin drawn")):
 @lru_cache(maxsize=4096)  # a fault comes in many pairs
 def told_of(text):
     """A fault that a row tells, or None."""
-    found = re.fullmatch(FAULT, text)
+    found = FAULT.fullmatch(text)
     if not found:
         return None
     drawn = found["to"] is not None or found["kind"] == "storm"
@@ -105,10 +104,14 @@ class Schedule:
         self.memory = {}  # who says a slot under a configuration, and the right words of a slot
         self.texts = None
 
+    def due_words(self):
+        """The same as a report has it, of each frame all of one length."""
+        return [",".join([f"{word:04x}" for word in words]) or "-" for words in self.ideal]
+
     def due_texts(self):
-        """The same as a report's lines have it."""
+        """The same with what stands around it in a report's lines."""
         if self.texts is None:
-            self.texts = [f" out={','.join([f'{word:04x}' for word in words]) or '-'} bad=" for words in self.ideal]
+            self.texts = [f" out={words} bad=" for words in self.due_words()]
         return self.texts
 
     def executors(self, size):

@@ -55,17 +55,21 @@ class Run:
         text = self.report.decode("ascii")
         return read_report(text, blanked_stretch_of), text.rstrip("\n").rsplit("\n", 1)[-1]
 
-    def row(self, campaign):
-        """The row of the run, which has flown."""
-        schedule = campaign.schedule
+    def row(self, campaign, reader=None):
+        """The row of the run, which has flown. The C reader, where there is one, finds nothing of what is required."""
+        outcome = reader.outcome_of(self.faults, self.report) if reader and not campaign.required else None
+        outcome, findings = (outcome, ()) if outcome else self.found(campaign)
+        promises = promises_of(campaign.schedule, self.faults, campaign.own)
+        return row_of(self.number, self.faults, outcome, self.verdict, promises, findings)
+
+    def found(self, campaign):
+        """What came of the run, and what is found of each requirement."""
         try:
             flight, last = self.read()
         except (NoReport, UnicodeDecodeError) as fault:
             raise self.no_row(fault) from None
-        outcome = outcome_of(self.faults, flight, last, schedule)
-        findings = [requirement.find(flight, schedule) for requirement in campaign.required]
-        promises = promises_of(schedule, self.faults, campaign.own)
-        return row_of(self.number, self.faults, outcome, self.verdict, promises, findings)
+        outcome = outcome_of(self.faults, flight, last, campaign.schedule)
+        return outcome, [requirement.find(flight, campaign.schedule) for requirement in campaign.required]
 
     def no_row(self, fault):
         return NoRow(f"row {self.number}: {fault}")
@@ -106,9 +110,10 @@ def batches_text(campaign, flyer, batches, more=0):
     all flights is told with the first of them."""
     numbers = [campaign.batch(batch) for batch in batches]
     runs = (run for some in in_rows(chain(*numbers)) for run in [Run(campaign, number) for number in some])
+    reader = flyer.reader_of(campaign.schedule)
     before, rows = flyer.seconds, []
     for some in in_rows(flown(runs, flyer, campaign.options["judge"], more)):
-        rows += [run.row(campaign) for run in some]
+        rows += [run.row(campaign, reader) for run in some]
     texts, left = [], iter(rows)
     for batch, own in zip(batches, numbers):
         texts.append(entry(batch, list(islice(left, len(own))), 0 if texts else flyer.seconds - before))

@@ -32,6 +32,10 @@ class Caller:
         """What the program's judge says of a report, both as bytes."""
         return self.run(("judge",), document + DIVIDER + report)[1].decode().strip()
 
+    def reader_of(self, schedule):
+        """The C reader of its reports of a schedule, or None."""
+        return None
+
     def has_judge(self):
         """Whether the program has the command."""
         return self.run(("judge",), b"")[0] != USAGE

@@ -1,10 +1,8 @@
 """What jobs write of their batches: a line that begins a batch, its rows, and a line that ends it, with a checksum."""
 import os
-import re
 import zlib
 from collections import namedtuple
 
-DONE = re.compile(rb"done ([0-9]+) ([0-9]+\.[0-9]{3}) ([0-9a-f]{8})\n")
 # Where the rows of a batch stand: in which file, from which byte on; how many they are, and the seconds of their flights.
 Place = namedtuple("Place", "path begin rows seconds")
 
@@ -13,6 +11,18 @@ def entry(batch, rows, seconds):
     """What a job writes of a batch."""
     text = "\n".join(rows)
     return "".join(line + "\n" for line in (f"batch {batch}", *rows, f"done {batch} {seconds:.3f} {zlib.crc32(text.encode()):08x}"))
+
+
+def done_in(line):
+    """Of a line that ends a batch its number, the seconds of its flights and the checksum of its rows; or None."""
+    parts = line.split(b" ")
+    if len(parts) != 4 or parts[0] != b"done":
+        return None
+    _, batch, seconds, check = parts
+    digits, thousandths = seconds[:-4], seconds[-3:]
+    is_right = batch.isdigit() and digits.isdigit() and seconds[-4:-3] == b"." and thousandths.isdigit()
+    is_right = is_right and len(check) == 9 and check.endswith(b"\n") and not check[:8].strip(b"0123456789abcdef")
+    return (int(batch), float(seconds), int(check[:8], 16)) if is_right else None
 
 
 def places_in(path):
@@ -29,9 +39,9 @@ def entries_in(path, here=0):
         begin, rows, check = here, 0, 0
         for line in file:
             here += len(line)
-            done = DONE.fullmatch(line)
-            if done and int(done[3], 16) == check:
-                yield int(done[1]), Place(path, begin, rows, float(done[2])), here
+            done = done_in(line)
+            if done and done[2] == check:
+                yield done[0], Place(path, begin, rows, done[1]), here
             if done or line.startswith(b"batch "):
                 begin, rows, check = here, 0, 0
             else:

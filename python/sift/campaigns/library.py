@@ -3,6 +3,7 @@ import time
 
 from sift.callers import Library
 from sift.campaigns.flyer import FLY, Caller, NoFlight, report_of
+from sift.campaigns.reader import reader_beside
 
 
 class LibraryFlyer(Caller):
@@ -10,6 +11,13 @@ class LibraryFlyer(Caller):
 
     def __init__(self, path):
         self.library = Library(path)
+        self.path, self.readers = path, {}
+
+    def reader_of(self, schedule):
+        """The C reader that lies beside the library, or None."""
+        if schedule not in self.readers:
+            self.readers[schedule] = reader_beside(self.path, schedule)
+        return self.readers[schedule]
 
     def run(self, words, text):
         begun = time.thread_time()

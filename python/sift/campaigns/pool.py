@@ -3,6 +3,8 @@ import ctypes
 import os
 import struct
 import sys
+# As signal has them, which takes as long to load as some flights.
+from _signal import SIG_DFL, SIGINT, SIGKILL, signal  # type: ignore[import]
 
 from sift.campaigns.flights import NoRow, batches_text
 from sift.campaigns.journal import append
@@ -49,10 +51,8 @@ class Pool:
     def end(self):
         """Ends its processes, where there are some."""
         if self.children:
-            import signal  # which takes as long to load as a flight, and is wanted by none or by each process for itself
-
             for child in self.children:
-                os.kill(child, signal.SIGKILL)
+                os.kill(child, SIGKILL)
             self.statuses()
 
     def statuses(self):
@@ -68,10 +68,8 @@ class Pool:
             return child
         status = 1
         try:
-            import signal
-
-            signal.signal(signal.SIGINT, signal.SIG_DFL)
-            ctypes.CDLL(None).prctl(DIE_WITH_PARENT, signal.SIGKILL)
+            signal(SIGINT, SIG_DFL)
+            ctypes.CDLL(None).prctl(DIE_WITH_PARENT, SIGKILL)
             if os.getppid() == parent:
                 for file in others:
                     os.close(file)

@@ -1,12 +1,12 @@
 """Reads reports of a campaign that the program's judge took, so that their form is known: what is asked for is read where it lies, by a
 few searches of each frame. All is told as by sift.reports.reading, which reads every other report, but for what the clocks show."""
-import re
 from functools import lru_cache
 
+from sift.forms import Form
 from sift.reports.reading import Flight, blanked_stretch_of, catches_of, read_report, units_of, words_of
 
 SHORT = 32 * 1024  # bytes of a report that is kept as a whole
-CATCHING = re.compile(r" u=([0-7]) cfg=.* bad=([^-].*)")  # the line of a unit that caught some
+CATCHING = Form(r" u=([0-7]) cfg=.* bad=([^-].*)")  # the line of a unit that caught some
 
 
 class QuickFlight(Flight):

@@ -59,49 +59,59 @@ class NoRows(Exception):
     """Why a text is no table of runs."""
 
 
+@lru_cache(maxsize=4096)  # most runs show what others showed
+def shown_in(said, caught, by, out):
+    """What a row tells that its run showed of the faults, and what became of their units."""
+    traces = tuple([trace_in(*parts) for parts in zip(said.split("+"), caught.split("+"), by.split("+"), out.split("+"))])
+    return traces, tuple(map(fate_of, traces))
+
+
+def trace_in(said, caught, by, out):
+    """What a run showed of a fault."""
+    caught, out = (None if frame == "-" else int(frame) for frame in (caught, out))
+    return Trace(said != "inert", caught, tuple(int(unit) for unit in by if unit != "-"), out)
+
+
+def fate_of(trace):
+    """What became of a faulty unit."""
+    if not trace.said:
+        return "inert"
+    if trace.out is not None:
+        return "out"
+    return "never caught" if trace.caught is None else "caught by one"
+
+
+@lru_cache(maxsize=4096)
+def promised_in(told, count):
+    """What is promised of so many faults, of each in words or None, and whether the run contradicts it."""
+    parts = told.rstrip(CONTRADICTED).split("+") if count else []
+    promised = [None if promise == "-" else promise for promise in parts]
+    return tuple(promised + [None] * (count - len(promised))), told.endswith(CONTRADICTED)
+
+
 class Row:
     """A row that was read back. Behind the columns of all tables stand those of what is required."""
 
     def __init__(self, line):
         self.cells = line.split("\t")
-        cells = dict(zip(COLUMNS, self.cells))
-        self.number = int(cells["row"])
-        faults = [] if cells["fault"] == NO_FAULT else cells["fault"].split(" + ")
-        self.faults = [told_of(fault) for fault in faults]
+        number, fault, *shown, margin, wrong, first, _, self.judge, _ = self.cells[: len(BEFORE)]
+        self.number = int(number)
+        self.faults = [] if fault == NO_FAULT else [told_of(each) for each in fault.split(" + ")]
         if None in self.faults:
-            raise ValueError(cells["fault"])
-        self.drawn = all(fault.drawn for fault in self.faults)  # so that each run is one of many like it
-        self.lost = {"ok": False, "lost": True}[cells["margin"]]
-        self.wrong = int(cells["wrong"])
-        self.first = None if cells["first"] == "-" else int(cells["first"])
-        self.judge = cells["judge"]
+            raise ValueError(fault)
+        self.drawn = all([fault.drawn for fault in self.faults])  # so that each run is one of many like it
+        self.lost = {"ok": False, "lost": True}[margin]
+        self.wrong = int(wrong)
+        self.first = None if first == "-" else int(first)
         self.findings = self.cells[len(COLUMNS) :]
-        parts = [cells[name].split("+") for name in ("said", "caught", "by", "out")]
-        self.traces = [self.trace_of(*part) for part in zip(*parts)] if faults else []
+        self.traces, self.fates = shown_in(*shown) if self.faults else ((), ())
         # Of each fault what is promised of it, or None; and whether the run contradicts it.
-        told = cells.get("promised", "-")
-        self.contradicted = told.endswith(CONTRADICTED)
-        self.promised = [None if promise == "-" else promise for promise in told.rstrip(CONTRADICTED).split("+")] if faults else []
-        self.promised += [None] * (len(faults) - len(self.promised))
-        self.fates = [self.fate_of(trace) for trace in self.traces]
-        # Of each fault how many frames it took until its unit was out, or None.
-        self.removals = [None if trace.out is None else max(0, trace.out - fault.begin) for trace, fault in zip(self.traces, self.faults)]
+        self.promised, self.contradicted = promised_in(self.cells[len(BEFORE)] if self.cells[len(BEFORE) :] else "-", len(self.faults))
 
-    @staticmethod
-    @lru_cache(maxsize=4096)  # most runs show what others showed
-    def trace_of(said, caught, by, out):
-        """What a run showed of a fault."""
-        caught, out = (None if frame == "-" else int(frame) for frame in (caught, out))
-        return Trace(said != "inert", caught, tuple(int(unit) for unit in by if unit != "-"), out)
-
-    @staticmethod
-    def fate_of(trace):
-        """What became of a faulty unit."""
-        if not trace.said:
-            return "inert"
-        if trace.out is not None:
-            return "out"
-        return "never caught" if trace.caught is None else "caught by one"
+    @property
+    def removals(self):
+        """Of each fault how many frames it took until its unit was out, or None."""
+        return [None if trace.out is None else max(0, trace.out - fault.begin) for trace, fault in zip(self.traces, self.faults)]
 
     @property
     def name(self):

@@ -1,6 +1,7 @@
 """The summary of a campaign: its rows in groups, the worst first. It is made row by row, and keeps none but the worst of each group."""
 import math
 from collections import Counter
+from functools import lru_cache
 
 from sift.campaigns.rows import counted, promised_of, short
 from sift.campaigns.shares import told
@@ -34,8 +35,11 @@ class Counts:
     def add(self, row):
         kind = 2 if row.drawn else {1: 0, 2: 1}.get(len(row.faults), 3)
         self.kinds.setdefault(kind, Count()).add(row)
-        self.promised.update(short(promise) for promise in row.promised if promise)
-        self.broken = [count + broken for count, broken in zip(self.broken, row.broken)]
+        for promise in row.promised:
+            if promise:
+                self.promised[short(promise)] += 1
+        if self.broken:
+            self.broken = [count + broken for count, broken in zip(self.broken, row.broken)]
 
     @property
     def runs(self):
@@ -59,6 +63,7 @@ class Counts:
             yield f"broken in {counted(count, 'run', 'runs')}: {name}"
 
 
+@lru_cache(maxsize=4096)  # a fault comes in many pairs
 def what_of(fault):
     """What was said wrong, and in which way; of relayed reports not whose they are."""
     return f"{'relay-report' if fault.slot.startswith('relay-report') else fault.slot} {fault.way}"
@@ -84,7 +89,7 @@ class Group:
     def add(self, row):
         self.runs += 1
         self.units |= row.units
-        self.promised.add(any(row.promised) if row.drawn else " + ".join(short(promise) or "-" for promise in row.promised))
+        self.promised.add(any(row.promised) if row.drawn else " + ".join([short(promise) or "-" for promise in row.promised]))
         badness = row.badness()
         if self.worst is None or (badness, -row.number) > (self.badness, -self.worst.number):
             self.worst, self.badness = row, badness

@@ -25,10 +25,11 @@ from sift.rules.loading import Refused, load, refusal, without_faults
 MODULES = (
     "__init__",
     "callers",
+    "forms",
     "random_faults",
     "where",
     *(f"campaigns/{name}" for name in ("__init__", "campaign", "faults", "findings", "flights", "flyer", "journal", "library")),
-    *(f"campaigns/{name}" for name in ("outcomes", "promised", "quick", "rows", "spread", "ways")),
+    *(f"campaigns/{name}" for name in ("outcomes", "promised", "quick", "reader", "rows", "spread", "ways")),
     *(f"documents/{name}" for name in ("__init__", "printing", "slots")),
     *(f"reports/{name}" for name in ("__init__", "reading")),
 )
@@ -195,6 +196,8 @@ def fill(kit, options, base, ideal, chosen):
     """Puts all that a kit has into it, and last what tells that it is whole."""
     import json
 
+    from sift.campaigns.reader import path_beside
+
     for name in MODULES:
         path = os.path.join(kit, "python", "sift", f"{name}.py")
         os.makedirs(os.path.dirname(path), exist_ok=True)
@@ -205,6 +208,9 @@ def fill(kit, options, base, ideal, chosen):
     library = library_of(options.program)
     if library:
         copied(library, os.path.join(kit, "libsift.so"))
+        reader = path_beside(library)
+        if os.path.exists(reader):
+            copied(reader, path_beside(os.path.join(kit, "libsift.so")))
     written(os.path.join(kit, "mission.toml"), base)
     written(os.path.join(kit, "ideal.txt"), ideal)
     written(os.path.join(kit, "campaign.json"), json.dumps(chosen) + "\n")

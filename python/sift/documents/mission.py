@@ -1,5 +1,4 @@
 """A mission as a document with places states it, and what its rules yield."""
-from sift.documents import texts
 from sift.documents.record import Record
 
 KEYS = {
@@ -104,6 +103,8 @@ class Mission:
 
     def scope(self, task):
         """What the text of a task may name."""
+        from sift.documents import texts  # which missions do without that are flown
+
         tasks = [(each.get("name").data, len(each.get("start").data)) for each in self.tasks]
         return texts.Scope(task, tasks, [each.get("name").data for each in self.sensors])
 
@@ -115,6 +116,8 @@ class Mission:
 
     def read_statements(self, task):
         """The same, read now."""
+        from sift.documents import texts
+
         text = self.tasks[task].get("text")
         if text is not None:
             return texts.read_text(text.data, self.scope(task))
@@ -142,6 +145,10 @@ class Mission:
     def held(self, size):
         """The tasks whose words may differ from the ideal machine's from a frame on that flies by the table for a size: those
         that it sheds, and those that read them, directly or by others."""
+        if not self.shed(size):
+            return set()
+        from sift.documents import texts
+
         parts = [list(texts.parts_of(self.statements(task))) for task in range(len(self.tasks))]
         reads = [{part.task for part in each if isinstance(part, texts.Read)} for each in parts]
         held, before = self.shed(size), None

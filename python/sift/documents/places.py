@@ -3,7 +3,7 @@
 It reads TOML 1.1 as the program does: integers have 64 bits, and arrays, inline tables and the parts of a key go 80 deep
 at most. What is no document is refused at the first character that no document goes on with.
 """
-import re
+from sift.forms import Form
 
 DEEPEST = 80
 KINDS = {
@@ -115,24 +115,27 @@ def line_at(text, place):
     return text[begin : len(text) if end < 0 else end].rstrip("\r").lstrip("\ufeff")
 
 
-BARE = re.compile(r"[A-Za-z0-9_-]+")
-BLANKS = re.compile(r"[ \t]*")
-WORD = re.compile(r"[A-Za-z0-9_.:+-]+(?: (?=[0-9])[A-Za-z0-9_.:+-]+)?")
-COMMENT = re.compile(r"#[^\n\r\x00-\x08\x0a-\x1f\x7f]*")
-NEW_LINE = re.compile(r"\r?\n")
-INTEGER = re.compile(r"[+-]?(?:0|[1-9](?:_?[0-9])*)")
+DIGITS = frozenset("0123456789")
+BARE = DIGITS | frozenset("ABCDEFGHIJKLMNOPQRSTUVWXYZabcdefghijklmnopqrstuvwxyz_-")
+WORD = BARE | frozenset(".:+")
+BLANKS = frozenset(" \t")
+# Forms of what few missions have.
+INTEGER = Form(r"[+-]?(?:0|[1-9](?:_?[0-9])*)")
 PREFIXED = {
-    "x": (16, r"0x[0-9A-Fa-f](?:_?[0-9A-Fa-f])*"),
-    "o": (8, r"0o[0-7](?:_?[0-7])*"),
-    "b": (2, r"0b[01](?:_?[01])*"),
+    "x": (16, Form(r"0x[0-9A-Fa-f](?:_?[0-9A-Fa-f])*")),
+    "o": (8, Form(r"0o[0-7](?:_?[0-7])*")),
+    "b": (2, Form(r"0b[01](?:_?[01])*")),
 }
-# What missions have none of is compiled when it is first looked for.
-SPECIAL_FLOAT = r"[+-]?(?:inf|nan)"
-FLOAT = r"[+-]?(?:0|[1-9](?:_?[0-9])*)(?:\.[0-9](?:_?[0-9])*)?(?:[eE][+-]?[0-9](?:_?[0-9])*)?"
+SPECIAL_FLOAT = Form(r"[+-]?(?:inf|nan)")
+FLOAT = Form(r"[+-]?(?:0|[1-9](?:_?[0-9])*)(?:\.[0-9](?:_?[0-9])*)?(?:[eE][+-]?[0-9](?:_?[0-9])*)?")
+BEGINS_DATE = Form(r"\d+[-:]")
+LEADING_ZEROS = Form(r"[+-]?0[0-9_]+")
+POINT_AT_END = Form(r"[+-]?(\.[0-9]+|[0-9]+\.)")
+LINE_THAT_GOES_ON, BLANK_LINES = Form(r"[ \t]*\r?\n"), Form(r"[ \t\r\n]*")
 DATE = r"(?P<year>\d{4})-(?P<month>\d\d)-(?P<day>\d\d)"
 TIME = r"(?P<hour>\d\d):(?P<minute>\d\d)(?::(?P<second>\d\d)(?:\.\d+)?)?"
 OFFSET = r"(?:[Zz]|[+-](?P<offset_hour>\d\d):(?P<offset_minute>\d\d))"
-DATES = (f"{DATE}(?:[Tt ]{TIME}{OFFSET}?)?", TIME)
+DATES = (Form(f"{DATE}(?:[Tt ]{TIME}{OFFSET}?)?"), Form(TIME))
 BOUNDS = {
     "month": (1, 12),
     "hour": (0, 23),
@@ -142,13 +145,13 @@ BOUNDS = {
     "offset_minute": (0, 59),
 }
 ESCAPES = {"b": "\b", "e": "\x1b", "f": "\f", "n": "\n", "r": "\r", "t": "\t", '"': '"', "\\": "\\"}
-HEX_ESCAPES = {"x": 2, "u": 4, "U": 8}
+HEX_ESCAPES = {"x": Form("[0-9A-Fa-f]{2}"), "u": Form("[0-9A-Fa-f]{4}"), "U": Form("[0-9A-Fa-f]{8}")}
 CURLY = "\u201c\u201d\u201e\u2018\u2019"
 
 
 def is_date(word):
     """Whether a word is a date, a time, or both."""
-    found = next(filter(None, (re.fullmatch(form, word) for form in DATES)), None)
+    found = next(filter(None, (form.fullmatch(word) for form in DATES)), None)
     if not found:
         return False
     parts = {name: int(part) for name, part in found.groupdict().items() if part}
@@ -166,20 +169,23 @@ def scalar_of(word):
     """The kind and the data of a word that isn't in quotes, or why it is no value."""
     if word in ("true", "false"):
         return "boolean", word == "true"
-    if re.match(r"\d+[-:]", word):
+    digits = word[1:] if word[0] in "+-" else word
+    if digits.isdecimal() and (digits[0] != "0" or digits == "0"):
+        return integer_of(word, int(word))
+    if BEGINS_DATE.match(word):
         if is_date(word):
             return "date", word
         return None, (f"`{word}` is no date and no time", "a mission has none: a number, or a string in quotes")
     if len(word) > 1 and word[0] == "0" and word[1] in PREFIXED:
         base, form = PREFIXED[word[1]]
-        if re.fullmatch(form, word):
+        if form.fullmatch(word):
             return integer_of(word, int(word.replace("_", ""), base))
         return None, (f"`{word}` is no number", f"digits of base {base} behind the `{word[:2]}`")
     if INTEGER.fullmatch(word):
         return integer_of(word, int(word.replace("_", "")))
-    if re.fullmatch(SPECIAL_FLOAT, word):
+    if SPECIAL_FLOAT.fullmatch(word):
         return "float", float(word)
-    if re.fullmatch(FLOAT, word):
+    if FLOAT.fullmatch(word):
         number = float(word.replace("_", ""))
         if abs(number) != float("inf"):
             return "float", number
@@ -198,11 +204,11 @@ def why_no_value(word):
     """Why a word is no value, and what to do."""
     if word.lower() in ("true", "false"):
         return f"`{word}` is no value: small letters", f"`{word.lower()}`"
-    if re.fullmatch(r"[+-]?0[0-9_]+", word):
+    if LEADING_ZEROS.fullmatch(word):
         return "a number has no leading zeros", f"`{word.lstrip('+-').lstrip('0_') or '0'}`"
-    if re.fullmatch(r"[+-]?(\.[0-9]+|[0-9]+\.)", word):
+    if POINT_AT_END.fullmatch(word):
         return f"`{word}` is no number: a point stands between digits", "`0.5`, as an example"
-    if re.match(r"[A-Za-z_]", word):
+    if word[0] in BARE - DIGITS - {"-"}:
         return f"`{word}` has no quotes, and is no number", f"a number; or a string: \"{word}\""
     return f"`{word}` is no number", "digits, with a sign before them where it is needed"
 
@@ -227,6 +233,36 @@ class Reader:
             self.at = found.end()
         return found[0] if found else ""
 
+    def some_of(self, characters):
+        """What comes next of these characters, and goes behind it."""
+        text, begin = self.text, self.at
+        end = begin
+        while text[end : end + 1] in characters:
+            end += 1
+        self.at = end
+        return text[begin:end]
+
+    def word(self):
+        """The same of a value without quotes; between a date and a time a blank may stand."""
+        word = self.some_of(WORD)
+        if word and self.next() == " " and self.text[self.at + 1 : self.at + 2] in DIGITS:
+            self.at += 1
+            word += " " + self.some_of(WORD)
+        return word
+
+    def new_line(self):
+        """The end of a line, where one is here, and goes behind it."""
+        end = "\r\n" if self.text.startswith("\r\n", self.at) else "\n" if self.next() == "\n" else ""
+        self.at += len(end)
+        return end
+
+    def comment(self):
+        """Goes behind a comment, up to the end of its line or a character that can't stand in it."""
+        end = self.text.find("\n", self.at)
+        comment = self.text[self.at : end if end >= 0 else len(self.text)]
+        stops = () if comment.isprintable() else enumerate(comment)
+        self.at += next((place for place, letter in stops if letter < " " and letter != "\t" or letter == "\x7f"), len(comment))
+
     def refuse(self, why, mend, place=None, end=None):
         place = self.at if place is None else place
         raise NotADocument(place, end or place + 1, why, mend)
@@ -241,14 +277,15 @@ class Reader:
         return f"`{here}` stands" if here.isprintable() else f"the character 0x{ord(here):02x} stands"
 
     def blanks(self):
-        self.take(BLANKS)
+        self.some_of(BLANKS)
 
     def blank_lines(self):
         """Goes past blanks, comments and new lines."""
         self.blanks()
         while self.next() and self.next() in "#\r\n":
-            self.take(COMMENT)
-            if self.next() and not self.take(NEW_LINE):
+            if self.next() == "#":
+                self.comment()
+            if self.next() and not self.new_line():
                 why = f"{self.found_here()}, which can't stand in a comment or between lines"
                 self.refuse(why, "take it out; a line ends with LF, or with CR LF")
             self.blanks()
@@ -394,7 +431,7 @@ class Reader:
             if self.next() and self.next() in "'\"":
                 name = self.string(lines=False).data
             else:
-                name = self.take(BARE)
+                name = self.some_of(BARE)
                 if not name:
                     self.refuse(f"a key is due here, and {self.found_here()}", "`key = value`, or a comment behind `#`")
             parts.append((name, start, self.at))
@@ -415,7 +452,7 @@ class Reader:
             if depth == 0:
                 self.refuse(f"arrays and inline tables are nested deeper than {DEEPEST}", "those of a mission go three deep")
             return self.array(depth - 1) if here == "[" else self.inline_table(depth - 1)
-        word = self.take(WORD)
+        word = self.word()
         if not word:
             self.refuse(*self.why_nothing(here))
         kind, data = scalar_of(word)
@@ -493,7 +530,7 @@ class Reader:
         many = lines and self.text.startswith(quote * 3, start)
         self.at += 3 if many else 1
         if many:
-            self.take(NEW_LINE)
+            self.new_line()
         data, places = [], []
         while True:
             here = self.at
@@ -519,7 +556,7 @@ class Reader:
             if not many:
                 mend = f"close it; one over many lines stands in {quote * 3}"
                 self.refuse("the string that begins here isn't closed on its line", mend, start)
-            return self.take(NEW_LINE)
+            return self.new_line()
         if here != "\t" and (here < " " or here == "\x7f"):
             why = f"the character 0x{ord(here):02x} can't stand in a string as it is"
             self.refuse(why, f"`\\u{ord(here):04x}` in double quotes")
@@ -544,15 +581,15 @@ class Reader:
         """What a backslash and what follows it stand for."""
         start = self.at
         self.at += 1
-        if many and re.compile(r"[ \t]*\r?\n").match(self.text, self.at):
-            self.take(re.compile(r"[ \t\r\n]*"))
+        if many and LINE_THAT_GOES_ON.match(self.text, self.at):
+            self.take(BLANK_LINES)
             return ""
         letter = self.next()
         self.at += 1
         if letter in ESCAPES and letter:
             return ESCAPES[letter]
         if letter in HEX_ESCAPES and letter:
-            digits = self.take(re.compile(f"[0-9A-Fa-f]{{{HEX_ESCAPES[letter]}}}"))
+            digits = self.take(HEX_ESCAPES[letter])
             if digits and (int(digits, 16) < 0xD800 or 0xE000 <= int(digits, 16) <= 0x10FFFF):
                 return chr(int(digits, 16))
         mend = "`\\\\` is a backslash; in single quotes it stands for itself"

@@ -4,6 +4,7 @@ import io
 
 from sift.documents import places
 from sift.documents.printing import lines_of, value_of
+from sift.documents.slots import FEWEST
 from sift.placing.problem import FIRST_RUN, POLL_DELAY, SHED, Row, Tables
 
 
@@ -48,7 +49,7 @@ def read_tables(text, subframes):
 
 
 def put(text, root, tables):
-    """The text of a document with these tables in place of its own, and with their number of subframes."""
+    """The text of a document with these tables in place of its own of these sizes, and with their number of subframes."""
     changes = [*root_changes(text, root, tables), *table_changes(text, root, tables)]
     for start, end, words in sorted(changes, key=lambda change: change[:2], reverse=True):
         text = text[:start] + words + text[end:]
@@ -87,8 +88,8 @@ def table_changes(text, root, tables):
         added = "".join(["" if text.endswith("\n") else end, end, tables_text(tables).replace("\n[[", "\n\n[[").replace("\n", end)])
         yield len(text), len(text), added
         return
-    for table, size in zip(old.data, tables.rows):
-        entries = {"shed": [], **entries_of(size, tables)}
+    for size in tables.rows:
+        table, entries = old.data[size - FEWEST], {"shed": [], **entries_of(size, tables)}
         for name in ("run", "poll", "at", "shed"):
             yield from value_changes(text, table, name, entries[name])
 

@@ -11,12 +11,11 @@ from sift.documents.show import shown
 from sift.files import read_source
 from sift.placing.account import aim_lines, campaign_lines, is_kept, more_of, wish_lines
 from sift.placing.document import NoTable, csv_text, put, read_csv, read_tables, rows_of_mission, tables_text
+from sift.placing.loading import load_but_for_tables, refused_beside
 from sift.placing.problem import Outline
 from sift.placing.search import NotFound, NoTables, Wishing, place as search
 from sift.placing.solver import NoSolver
 from sift.placing.wishes import NoWishes, nothing_wished, read_wishes
-from sift.rules.refusals import STEPS
-from sift.rules.tables import broken_tables, table_faults
 
 DOUBT = 60  # seconds after which the fewest wishes that can't hold together aren't sought any more
 LOUD = "place: " + "!" * 72
@@ -40,12 +39,10 @@ class Work:
     def __init__(self, options):
         self.options = options
         self.name = options.mission
-        steps = [step for step in STEPS if step != broken_tables]
         try:
-            self.text, self.root, self.mission = load(read_source(self.name), steps)
+            self.text, self.root, self.mission, self.refused = load_but_for_tables(read_source(self.name))
         except Refused as refused:
             raise Stopped(refusal(self.name, refused), 2) from None
-        self.refused = next((broken.line for broken in broken_tables(self.mission)), None)
         self.outline = Outline(self.mission)
         self.own = rows_of_mission(self.mission)
 
@@ -92,11 +89,9 @@ def wishes_of(work):
             for fault in refused.faults
         ]
         raise Stopped(f"the wishes are refused\n{''.join(told)}".rstrip("\n"), 2) from None
-    for size in work.outline.sizes:
-        # A table that stays has to keep the rules, but for the one that asks for more subframes.
-        broken = [fault.line for fault in table_faults(work.mission, size) if not fault.line.endswith(" rule 3")]
-        if size not in wishes.sizes and broken:
-            raise Stopped(f"`sizes` leaves the table for {size} as it is, and it is refused: {broken[0]}", 2)
+    broken = refused_beside(work.text, work.root, work.mission, wishes.sizes)
+    if broken:
+        raise Stopped(f"`sizes` leaves the table for {broken.split(' ')[1]} as it is, and it is refused: {broken}", 2)
     return wishes
 
 

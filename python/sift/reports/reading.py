@@ -2,8 +2,9 @@
 from __future__ import annotations
 
 import itertools
-import re
 from functools import lru_cache
+
+from sift.forms import Form
 
 TYPE_CHECKING = False  # as typing has it, which takes as long to load as a flight
 if TYPE_CHECKING:
@@ -12,19 +13,18 @@ if TYPE_CHECKING:
 NUMBER = "(0|[1-9][0-9]*)"
 WORDS_LISTED = "(-|[0-9a-f]{4}(?:,[0-9a-f]{4})*)"
 CAUGHT_LISTED = "(-|[0-7]+|[0-7](?:pr?c?|rc?|c)(?:,[0-7](?:pr?c?|rc?|c))*)"  # in version 1 digits, in version 2 with kinds
-# Forms of lines. They are compiled when they are first looked for, which takes as long as a flight.
-UNIT = f"f={NUMBER} u=[0-7] "
-ACCOUNT = f"cfg=([0-7]+) clk=(-?{NUMBER}) in={WORDS_LISTED} out={WORDS_LISTED} bad={CAUGHT_LISTED}"
+# Forms of lines.
+UNIT = Form(f"f={NUMBER} u=[0-7] ")
+ACCOUNT = Form(f"cfg=([0-7]+) clk=(-?{NUMBER}) in={WORDS_LISTED} out={WORDS_LISTED} bad={CAUGHT_LISTED}")
 # What no outcome of a run asks for: the numbers of the clocks. In place of them stands what they are blanked with.
 CLOCKS = {
-    " clk=0 ": f" clk=-?{NUMBER} ",
-    " skew=0 slack=0 ": f" skew={NUMBER} slack=-?{NUMBER} ",
+    " clk=0 ": Form(f" clk=-?{NUMBER} "),
+    " skew=0 slack=0 ": Form(f" skew={NUMBER} slack=-?{NUMBER} "),
 }
 STRETCH = 10  # frames of a report that are looked for at once among those that were read before
 KINDS = {"p": "poll", "r": "relay", "c": "clock"}
-FRAME = f"f={NUMBER} (?:skew={NUMBER} slack=(-?{NUMBER})|skew=- slack=-) margin=(ok|lost)"
-END = f"end frames={NUMBER} cfg=([0-7]+) margin=(ok|lost)"
-IDEAL = f"f={NUMBER} out={WORDS_LISTED}"
+FRAME = Form(f"f={NUMBER} (?:skew={NUMBER} slack=(-?{NUMBER})|skew=- slack=-) margin=(ok|lost)")
+END = Form(f"end frames={NUMBER} cfg=([0-7]+) margin=(ok|lost)")
 
 
 class NoReport(Exception):
@@ -149,7 +149,7 @@ def account_of(text):
     """What the line of a unit tells behind the frame and the unit: its state, and its cfg, clk, in, out and bad; or None."""
     if text in ("faulty", "idle"):
         return text, None, None, None, None, {}
-    found = re.fullmatch(ACCOUNT, text)
+    found = ACCOUNT.fullmatch(text)
     if not found:
         return None
     return "works", units_of(found[1]), int(found[2]), words_of(found[4]), words_of(found[5]), catches_of(found[6])
@@ -160,7 +160,7 @@ def unit_of(line, number, unit):
     begin = f"f={number} u={unit} "
     if line.startswith(begin):
         return account_of(line[len(begin) :])
-    other = re.match(UNIT, line)
+    other = UNIT.match(line)
     if other and account_of(line[other.end() :]):
         raise NoReport(f"frame {number} and unit {unit} are due")
     return None
@@ -168,7 +168,7 @@ def unit_of(line, number, unit):
 
 def figures_of(line, number):
     """The skew and the slack, or None, and whether the margin holds, as the line of the frame as a whole tells them."""
-    found = re.fullmatch(FRAME, line)
+    found = FRAME.fullmatch(line)
     if not found or int(found[1]) != number:
         raise NoReport(f"a line of frame {number} is due")
     return int(found[2]) if found[2] else None, int(found[3]) if found[3] else None, found[5] == "ok"
@@ -202,7 +202,7 @@ def frame_of(text, number, count):
 
 def read_end(line, is_last, number, count):
     """The configuration after so many frames of so many units, where a line is the end of the report; or None."""
-    end = re.fullmatch(END, line)
+    end = END.fullmatch(line)
     if not end or not number:
         return None
     if int(end[1]) != number or not is_last:
@@ -280,7 +280,7 @@ def stretch_of(text, number, count, version):
 def blanked_stretch_of(text, *before):
     """The same with 0 for what the clocks show. Most reports of a mission differ in that alone from one that was read before."""
     for blank, clock in CLOCKS.items():
-        text = re.sub(clock, blank, text)
+        text = clock.sub(blank, text)
     return stretch_of(text, *before)
 
 
@@ -301,15 +301,20 @@ def read_report(text: str, stretch: Any = stretch_of) -> Flight:
     return Flight(frames, last)
 
 
+def are_words(text: str) -> bool:
+    """Whether a text is a list of words, of four hexadecimal digits each."""
+    return text == "-" or all(len(word) == 4 and not word.strip("0123456789abcdef") for word in text.split(","))
+
+
 def read_ideal(text: str) -> List[Tuple[int, ...]]:
     """Of each frame the output words of the ideal machine, from the text of `sift ideal`."""
     lines = lines_of(whole_lines(text))
     frames = []
     for number, line in enumerate(lines[:-1]):
-        found = re.fullmatch(IDEAL, line)
-        if not found or int(found[1]) != number:
+        head, _, words = line.partition(" out=")
+        if head != f"f={number}" or not are_words(words):
             raise NoReport(f"line {number + 1}: a line of frame {number} is due")
-        frames.append(words_of(found[2]))
+        frames.append(words_of(words))
     if not frames or lines[-1] != f"end frames={len(frames)}":
         raise NoReport(f"line {len(lines)}: the line of the mission's end is missing")
     return frames

@@ -10,21 +10,34 @@ class Refused(Exception):
     """The line that a document gets in place of a mission."""
 
 
-def load(raw, steps=None):
+def load(raw):
     """The text, the root table and the mission of a document's bytes. Whether it is refused the program tells where it is built, and
-    else the rules; they alone where some of their steps are named."""
-    line = None if steps else program_refuses(raw)
-    try:
-        text, root = places.read(raw)
-    except places.NotADocument:
-        raise Refused(line or "not a document") from None
+    else the rules."""
+    line = program_refuses(raw)
+    text, root = read(raw, line)
     if line is None:
-        from sift.rules.refusals import STEPS, refusals  # which the program does without
+        from sift.rules.refusals import STEPS  # which the program does without
 
-        line = next((broken.line for broken in refusals(root, steps or STEPS)), "")
+        by_rules(root, STEPS)
     if line:
         raise Refused(line)
     return text, root, Mission(root)
+
+
+def read(raw, line):
+    """The text and the root table of a document's bytes, to which the program has answered this line, where it was asked."""
+    try:
+        return places.read(raw)
+    except places.NotADocument:
+        raise Refused(line or "not a document") from None
+
+
+def by_rules(root, steps):
+    """Has a document Refused for the first rule of some steps that it breaks."""
+    from sift.rules.refusals import refusals
+
+    for broken in refusals(root, steps):
+        raise Refused(broken.line)
 
 
 def program_refuses(raw):

@@ -39,7 +39,6 @@ promised, or something got worse; 2 for other words, or a mission or a file that
 import contextlib
 import gc
 import os
-import re
 import sys
 from types import SimpleNamespace
 
@@ -49,8 +48,11 @@ from sift.campaigns.kits import can_fly, kit_of, new_kit
 from sift.campaigns.ways import VALUES
 from sift.documents.slots import ALL_KINDS, KINDS
 from sift.files import as_called, run
+from sift.forms import Form
 
 
+VALUES_LISTED = Form("(-?[0-9]{1,5})(?:-([0-9]{1,5}))?")
+FRAMES_LISTED = Form("([0-9]+)(?:-([0-9]+))?")
 STORM = "storm"  # a kind that is drawn alone: what a stray unit stores can't be listed
 
 
@@ -69,7 +71,7 @@ def values_of(text):
     """The values of a list such as 7,-3,0-15."""
     values = []
     for part in text.split(","):
-        found = re.fullmatch("(-?[0-9]{1,5})(?:-([0-9]{1,5}))?", part)
+        found = VALUES_LISTED.fullmatch(part)
         if not found or int(found[1]) > int(found[2] or found[1]):
             raise NotRight(f"{text}: values are listed as in 7,-3 or 0-15")
         values += range(int(found[1]), int(found[2] or found[1]) + 1)
@@ -80,7 +82,7 @@ def frames_of(text):
     """The frames of a list such as 0,10-19."""
     frames = set()
     for part in text.split(","):
-        found = re.fullmatch("([0-9]+)(?:-([0-9]+))?", part)
+        found = FRAMES_LISTED.fullmatch(part)
         if not found or int(found[1]) > int(found[2] or found[1]):
             raise NotRight(f"{text}: frames are listed as in 0,10 or 0-49")
         frames |= set(range(int(found[1]), int(found[2] or found[1]) + 1))
