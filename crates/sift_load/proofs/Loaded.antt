@@ -37,6 +37,13 @@ stated_so data_in bytes tree (Ok mission) reads states = (tree, reads, states)
 stated_so data_in bytes tree (Err (stop.Refused reason)) reads states = tt
 stated_so data_in bytes tree (Err stop.NoMemory) reads states = tt
 
+-- what is answered where there is no mission is the reply to the reason why the bytes state none
+pub replied_so :
+    (gives : MissionData → Reply → Type 0) (bytes : List ℕ) (why : Stop NoMission) (answered reply : Reply) → IfRefused (StatesNone bytes) why
+    → IfRefused (λ reason. answered ≡ reply_to reason) why → ¬ (why ≡ stop.NoMemory) → reply ≡ answered → LoadsThen gives bytes reply
+replied_so gives bytes (stop.Refused reason) answered reply none told there is = inr (reason, none, is ∙ told)
+replied_so gives bytes stop.NoMemory answered reply none told there is = absurd (there refl)
+
 -- bytes state one mission
 pub one_stated : OneMission → OneMissionIsStated
 one_stated one_mission bytes one other (tree, reads, states) (tree', reads', states') =

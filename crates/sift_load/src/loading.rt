@@ -94,7 +94,7 @@ pub fn read_document(alloc: Global, bytes: &[u8]) -> Result<Table, Stop<NoMissio
 
 /// The document that the reader answered, or that the bytes are none. Memory was wanting where the reader says so, and nowhere else.
 fn document_of(read: Result<Table, toml::de::Error>) -> Result<Table, Stop<NoMission>>
-    ensures document { (document : Table) → read ≡ Ok document → result ≡ Ok document }
+    ensures document { IfOk read (λ document. result ≡ Ok document) }
     ensures wanting { IfErr read (λ error. IsMemory error → result ≡ Err Stop.NoMemory) }
     ensures refused { IfErr read (λ error. ¬ IsMemory error → result ≡ Err (Stop.Refused NoMission.NotADocument)) }
 {
@@ -153,7 +153,10 @@ pub fn begin_for_bytes<M: Drop, W: Work, J: MissionJob<M, W>>(
 {
     match load(alloc, bytes) {
         Ok(mission) => job.begin_for(alloc, means, mission),
-        Err(stop) => Ok(Begun::Replied(reply_without(alloc, stop)?)),
+        Err(stop) => {
+            let reply = reply_without(alloc, stop)?;
+            Ok(Begun::Replied(reply))
+        }
     }
 }
 
@@ -161,7 +164,7 @@ pub fn begin_for_bytes<M: Drop, W: Work, J: MissionJob<M, W>>(
 fn reply_without(alloc: Global, stop: Stop<NoMission>) -> Result<Reply, NoMemory>
     ensures told { IfRefused (λ why. IfOk result (λ reply. reply ≡ reply_to why)) stop }
     ensures sure { stop ≡ Stop.Refused NoMission.NotADocument → result ≡ Ok (reply_to NoMission.NotADocument) }
-    ensures wanting { stop ≡ Stop.NoMemory → result ≡ Err NoMemory }
+    ensures wanting { stop ≡ Stop.NoMemory → result ≡ Err (record {}) }
 {
     match stop {
         Stop::Refused(why) => why.reply(alloc),

@@ -1,8 +1,8 @@
-use Rattle.std.proofs.Common.{◌∙◌, inr}
+use Rattle.sift_load.proofs.Loaded.{replied_so}
 use Rattle.sift_load.proofs.loading.begin_for_bytes.Goals as goal
 
 -- the reply to bytes that state no mission
-pub returns-in-Err-Refused : goal.returns-in-Err-Refused
-returns-in-Err-Refused g c reply is =
-    let told = c.in-Err-Refused.field-0-is in
-    inr (c.in-Err-Refused.why, rw told at c.in-Err-Refused.ensures.refused, is ∙ rw told at c.in_ok-reply-in-Err-Refused.ensures)
+pub returns-in_ok-reply-in-Err : goal.returns-in_ok-reply-in-Err
+returns-in_ok-reply-in-Err g c reply is =
+    replied_so _ _ _ _ reply c.in-Err.ensures.refused c.in_ok-reply-in-Err.ensures.told
+    (λ wanting. let none = c.in_ok-reply-in-Err.ensures.wanting wanting in cc) is
