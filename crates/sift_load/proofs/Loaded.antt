@@ -39,10 +39,10 @@ stated_so data_in bytes tree (Err stop.NoMemory) reads states = tt
 
 -- what is answered where there is no mission is the reply to the reason why the bytes state none
 pub replied_so :
-    (gives : MissionData → Reply → Type 0) (bytes : List ℕ) (why : Stop NoMission) (answered reply : Reply) → IfRefused (StatesNone bytes) why
-    → IfRefused (λ reason. answered ≡ reply_to reason) why → ¬ (why ≡ stop.NoMemory) → reply ≡ answered → LoadsThen gives bytes reply
-replied_so gives bytes (stop.Refused reason) answered reply none told there is = inr (reason, none, is ∙ told)
-replied_so gives bytes stop.NoMemory answered reply none told there is = absurd (there refl)
+    (bytes : List ℕ) (why : Stop NoMission) (answered reply : Reply) → IfRefused (StatesNone bytes) why → IfRefused (λ reason. answered ≡ reply_to reason) why
+    → ¬ (why ≡ stop.NoMemory) → reply ≡ answered → (reason : NoMission) × StatesNone bytes reason × (reply ≡ reply_to reason)
+replied_so bytes (stop.Refused reason) answered reply none told there is = (reason, none, is ∙ told)
+replied_so bytes stop.NoMemory answered reply none told there is = absurd (there refl)
 
 -- bytes state one mission
 pub one_stated : OneMission → OneMissionIsStated
