@@ -10,17 +10,17 @@ if TYPE_CHECKING:
     from sift.callers import Library as Library, NotAnswered as NotAnswered, Program as Program, use as use
     from sift.commands import buses as buses, byz as byz, check as check, clocks as clocks, gen as gen, ideal as ideal
     from sift.commands import judge as judge, plan as plan, run as run, trial as trial, votes as votes
-    from sift.mission import Mission as Mission
+    from sift.mission import Mission as Mission, NoSuchName as NoSuchName
     from sift.refusal import Refusal as Refusal
-    from sift.report import Report as Report
+    from sift.report import NoReport as NoReport, Report as Report
 
 MODULES = {
     "campaign": ("Campaign", "NotFlown"),
     "callers": ("Library", "NotAnswered", "Program", "use"),
     "commands": ("buses", "byz", "check", "clocks", "gen", "ideal", "judge", "plan", "run", "trial", "votes"),
-    "mission": ("Mission",),
+    "mission": ("Mission", "NoSuchName"),
     "refusal": ("Refusal",),
-    "report": ("Report",),
+    "report": ("NoReport", "Report"),
 }
 PLACES = {name: module for module, names in MODULES.items() for name in names}
 __all__ = sorted(PLACES)

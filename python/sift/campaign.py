@@ -74,7 +74,7 @@ class Campaign:
 
     @cached_property
     def rows(self) -> List[Dict[str, str]]:
-        """The runs, a row each, by the columns of runs.tsv."""
+        """The runs, a row each, by the columns of runs.tsv, which docs/campaigns.md tells of: texts, as they stand there."""
         with open(os.path.join(self.folder, "runs.tsv"), encoding="utf-8", newline="") as file:
             return list(csv.DictReader(file, delimiter="\t"))
 
@@ -93,7 +93,7 @@ class Campaign:
         return pandas.read_csv(os.path.join(self.folder, "runs.tsv"), sep="\t", na_values="-", keep_default_na=False)
 
     def replay(self, row: int) -> Tuple[Mission, Report]:
-        """The mission of a row, with its faults, and its report."""
+        """The mission of a row, counted from 1, with its faults, and its report."""
         from sift.mission import Mission
 
         document, _, report = swept(["--replay", str(row), "--out", self.folder])[0].partition(DIVIDER)

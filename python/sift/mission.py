@@ -70,7 +70,7 @@ class Part:
 
 
 class Sensor(Part):
-    """A sensor."""
+    """A sensor, with the word that it shows in each frame. A word that is written is from -32768 to 65535, which have 16 bits."""
 
     @property
     def name(self) -> str:
@@ -95,6 +95,7 @@ class Task(Part):
 
     @property
     def start(self) -> List[int]:
+        """Its words before frame 0, one for each that it puts out."""
         return list(plain(self.data["start"]))
 
     @start.setter
@@ -103,6 +104,7 @@ class Task(Part):
 
     @property
     def text(self) -> Optional[str]:
+        """How its words are computed, as docs/tasks.md has it; None where `linear` tells it."""
         return None if "text" not in self.data else str(self.data["text"])
 
     @text.setter
@@ -112,6 +114,7 @@ class Task(Part):
 
     @property
     def linear(self) -> Optional[Tuple[int, int]]:
+        """The factor and the term by which its one word follows from the one before; None where `text` tells it."""
         return None if "linear" not in self.data else (int(self.data["linear"][0]), int(self.data["linear"][1]))
 
     @linear.setter
@@ -126,6 +129,7 @@ class Table(Part):
 
     @property
     def size(self) -> int:
+        """For how many units it is."""
         return int(self.data["size"])
 
     def __getitem__(self, task: str) -> Tuple[int, int, str]:
@@ -271,7 +275,7 @@ class Mission:
 
     @property
     def clock(self) -> Data:
-        """The clocks: a table that can be changed in place. Where the document has none it is made."""
+        """The clocks, whose figures are ticks: a table that can be changed in place. Where the document has none it is made."""
         if "clock" not in self.data:
             self.data["clock"] = self._kit.table() if self._kit else {}
         clock: Data = self.data["clock"]
@@ -305,13 +309,15 @@ class Mission:
         return [Fault(self, each) for each in self.list("fault")]
 
     def sensor(self, name: str) -> Sensor:
+        """The sensor of a name; NoSuchName, a KeyError, comes where there is none."""
         return self.sensors[self.number_of("sensor", name)]
 
     def task(self, name: str) -> Task:
+        """The task of a name; NoSuchName, a KeyError, comes where there is none."""
         return self.tasks[self.number_of("task", name)]
 
     def table(self, size: int) -> Table:
-        """The table for a number of units."""
+        """The table for a number of units; NoSuchName, a KeyError, comes where there is none."""
         found = next((table for table in self.tables if table.size == size), None)
         if not found:
             raise NoSuchName(f"there is no table for {size} units")
@@ -356,7 +362,7 @@ class Mission:
         return Fault(self, self.append(self.data, "fault", {"unit": unit, "from": begin}))
 
     def add_storm(self, unit: int, begin: int, number: int, strays: int) -> Fault:
-        """Adds a unit that turns stray from a frame on."""
+        """Adds a unit that turns stray from a frame on, whose strays, so many of them, are drawn from a number."""
         fault = self.add_fault(unit, begin)
         fault.data["storm"] = self.item({"number": number, "strays": strays})
         return fault

@@ -5,8 +5,9 @@ import os
 from functools import cached_property
 from typing import TYPE_CHECKING, Any, Dict, Iterator, List, NamedTuple, Optional, Sequence, Tuple
 
+from sift.commands import Document, bytes_of
 from sift.reports.named import Named
-from sift.reports.reading import KINDS, Flight, Frame, bad_of, read_report, set_of
+from sift.reports.reading import KINDS, Flight, Frame, NoReport as NoReport, bad_of, read_report, set_of
 
 if TYPE_CHECKING:
     import matplotlib.axes
@@ -14,7 +15,8 @@ if TYPE_CHECKING:
 
 
 class Catch(NamedTuple):
-    """A catch: in which frame which unit caught which one, and by what: "poll", "relay", "clock"; in version 1 that isn't told."""
+    """A catch: in which frame the unit `by` caught the unit `caught`, and by what, "poll", "relay" or "clock", which version 1 doesn't
+    tell."""
 
     frame: int
     by: int
@@ -28,17 +30,17 @@ class Report:
     With the document that was flown its words have the names that the document gives them.
     """
 
-    def __init__(self, text: str, document: Optional[bytes] = None) -> None:
-        """Reads a text; one that is no report raises `sift.reports.reading.NoReport`."""
+    def __init__(self, text: str, document: Optional[Document] = None) -> None:
+        """Reads a text. NoReport, a ValueError, comes where it is none, or none of this document's."""
         self.text = text
-        self.document = document
+        self.document = None if document is None else bytes_of(document)
         self._flight: Flight = read_report(text)
         if self.named:
             self.named.check(self._flight)
 
     @classmethod
-    def read(cls, path: "os.PathLike[str] | str", document: Optional[bytes] = None) -> Report:
-        """The report of a file."""
+    def read(cls, path: "os.PathLike[str] | str", document: Optional[Document] = None) -> Report:
+        """The report of a file, which may be that of this document."""
         with open(path, encoding="ascii", newline="") as file:
             return cls(file.read(), document)
 
@@ -111,14 +113,15 @@ class Report:
         return []
 
     def words(self, name: str) -> List[Optional[int]]:
-        """Of each frame a word, by its name, as the lowest unit tells it that tells one, with its sign; or None."""
+        """Of each frame a word, by its name, as the lowest unit tells it that tells one, from -32768 to 32767; None where none does. For a
+        name that isn't among `names` a KeyError comes."""
         if name not in self.names:
             raise KeyError(f"there is no word {name}; there are {', '.join(self.names)}")
         place = self.names.index(name)
         return [next((row[place] for row in self.told(frame) if row[place] is not None), None) for frame in self.frames]
 
     def told(self, frame: Frame) -> Iterator[Sequence[Optional[int]]]:
-        """Of each unit its words in a frame, with their signs."""
+        """Of each unit its words in a frame, in the order of `names`, from -32768 to 32767."""
         from sift.texts import signed
 
         for outputs, inputs in zip(frame.outputs, frame.inputs):
@@ -144,7 +147,8 @@ class Report:
         return differences(self._flight, other._flight)
 
     def to_pandas(self) -> pandas.DataFrame:
-        """A data frame with a row for each frame and unit: its state, configuration, clock, words by name, and whom it caught."""
+        """A data frame with a row for each frame and unit: its state, configuration, clock in ticks, words by name with their signs, whom it
+        caught, and of the frame skew and slack in ticks and the margin. ImportError comes where there is no pandas."""
         import pandas
 
         words: Dict[str, List[Optional[int]]] = {name: [] for name in self.names}

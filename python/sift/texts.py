@@ -54,7 +54,8 @@ class Text:
 
 
 class Vote(NamedTuple):
-    """A vote: who votes in which frame on which word of a task, the word that it has of each executor, and what it votes."""
+    """A vote: which unit votes in which frame on which output word of a task; the word, 0 to 65535, that it has of each unit that runs the
+    task, None where it has none; and what it votes."""
 
     frame: int
     unit: int
@@ -70,14 +71,17 @@ class Ending(Text):
 
     @property
     def frames(self) -> int:
+        """How many frames were flown."""
         return int(found(END, self.lines[-1])[1])
 
     @property
     def configuration(self) -> Tuple[int, ...]:
+        """The units of the configuration after the last frame."""
         return tuple(map(int, found(END, self.lines[-1])[2]))
 
     @property
     def margin(self) -> bool:
+        """Whether the margin holds to the end."""
         return found(END, self.lines[-1])[3] == "ok"
 
 
@@ -117,10 +121,12 @@ class Verdict(Text):
 
     @property
     def frame(self) -> Optional[int]:
+        """The first frame that breaks a rule; None where none does."""
         return None if self else int(found(VERDICT, self.lines[0])[1])
 
     @property
     def rule(self) -> Optional[int]:
+        """The rule that it breaks, as docs/judge.md numbers them; None where it breaks none."""
         return None if self else int(found(VERDICT, self.lines[0])[2])
 
 
@@ -165,7 +171,7 @@ class Vectors(Text):
 
     @property
     def vectors(self) -> List[Optional[Tuple[int, ...]]]:
-        """Of each unit its vector, and of a liar None."""
+        """Of each unit its vector, a word for each unit; of a liar None."""
         told: List[Optional[Tuple[int, ...]]] = []
         for line in self.lines:
             _, _, vector = line.partition(" vector=")
@@ -179,14 +185,17 @@ class Skews(Text):
 
     @property
     def skews(self) -> List[int]:
+        """Of each round how many ticks the working clocks are apart."""
         return [int(found(SKEW, line)[2]) for line in self.lines[:-1]]
 
     @property
     def most(self) -> int:
+        """The most ticks that they are ever apart."""
         return int(found(LAST_OF_CLOCKS, self.lines[-1])[3])
 
     @property
     def bound(self) -> int:
+        """The ticks that they are apart at most, by the theorem."""
         return int(found(LAST_OF_CLOCKS, self.lines[-1])[4])
 
     def plot(self, axes: Optional[matplotlib.axes.Axes] = None) -> matplotlib.axes.Axes:

@@ -105,6 +105,15 @@ def flyer_of(campaign):
     return LibraryFlyer(campaign.library)
 
 
+def flyer_of_job(campaign):
+    """The same for a process that does nothing but fly."""
+    if campaign.has_library():
+        from sift.campaigns.library import keep_memory
+
+        keep_memory()
+    return flyer_of(campaign)
+
+
 def batches_text(campaign, flyer, batches, more=0):
     """What a job writes of some batches: the rows of each between a line that begins it and one that ends it; or NoRow. The time of
     all flights is told with the first of them."""
@@ -130,7 +139,7 @@ def main(kit, batch, more=0):
     gc.disable()  # nothing that is read of a report refers to itself, and what is kept of reports is bounded
     campaign = Campaign(kit)
     try:
-        sys.stdout.write(batch_text(campaign, flyer_of(campaign), batch, more))
+        sys.stdout.write(batch_text(campaign, flyer_of_job(campaign), batch, more))
         sys.stdout.flush()
     except NoRow as fault:
         print(fault, file=sys.stderr)
@@ -143,7 +152,7 @@ def share(kit, batches, output, place, of):
     output. Those that it has there, as a job that is begun anew may, aren't flown again."""
     gc.disable()
     campaign = Campaign(kit)
-    flyer, status = flyer_of(campaign), 0
+    flyer, status = flyer_of_job(campaign), 0
     with open(batches, encoding="utf-8") as lines:
         wanted = [int(line) for line in lines][place::of]
     append(output, "\n")  # behind what may be cut off

@@ -1,9 +1,21 @@
 """Runs the program on documents by its library, within this process."""
+import ctypes
 import time
 
 from sift.callers import Library
 from sift.campaigns.flyer import FLY, Caller, NoFlight, report_of
 from sift.campaigns.reader import reader_beside
+
+TRIM_THRESHOLD = -1  # M_TRIM_THRESHOLD of the C library
+KEPT = 1 << 26  # bytes
+
+
+def keep_memory():
+    """Lets this process keep the memory that a flight gives back, for the next one: to have it anew from the system takes as long as
+    a seventh of a short flight. It is for processes that do nothing but fly."""
+    adjust = getattr(ctypes.CDLL(None), "mallopt", None)  # of glibc
+    if adjust:
+        adjust(TRIM_THRESHOLD, KEPT)
 
 
 class LibraryFlyer(Caller):

@@ -7,6 +7,7 @@ import sys
 from _signal import SIG_DFL, SIGINT, SIGKILL, signal  # type: ignore[import]
 
 from sift.campaigns.flights import NoRow, batches_text
+from sift.campaigns.library import keep_memory
 from sift.campaigns.journal import append
 
 SHARE = struct.Struct("=qq")  # how a share stands in a pipe: the place of its first batch among those to be flown, and how many
@@ -70,6 +71,7 @@ class Pool:
         try:
             signal(SIGINT, SIG_DFL)
             ctypes.CDLL(None).prctl(DIE_WITH_PARENT, SIGKILL)
+            keep_memory()
             if os.getppid() == parent:
                 for file in others:
                     os.close(file)

@@ -27,8 +27,8 @@ FRAME = Form(f"f={NUMBER} (?:skew={NUMBER} slack=(-?{NUMBER})|skew=- slack=-) ma
 END = Form(f"end frames={NUMBER} cfg=([0-7]+) margin=(ok|lost)")
 
 
-class NoReport(Exception):
-    """Why the input is no report."""
+class NoReport(ValueError):
+    """Why a text is no report."""
 
     def __init__(self, why, line=0):
         super().__init__(why)
@@ -36,17 +36,24 @@ class NoReport(Exception):
 
 
 class Frame:
-    """What the lines of one frame say. It is the same object for the same lines, and isn't changed."""
+    """What the lines of one frame say. It is the same object for the same lines, and isn't changed.
+
+    Of each unit, by its number: `states`, which are "works", "faulty" or "idle"; and of those that work, else None, `configurations`, the
+    units of its own; `clocks`, what its clock shows, in ticks; `inputs` and `outputs`, words from 0 to 65535. `catches` are the units that
+    it caught, each with letters for what they were caught by: p, r and c for poll, relay and clock, in version 1 none.
+
+    Of the frame as a whole: `skew` and `slack` in ticks, or None where no working unit is in the configuration, and whether it has
+    `margin`.
+    """
 
     def __init__(self, units: Sequence[Sequence[Any]], figures: Tuple[Optional[int], Optional[int], bool]) -> None:
         told: List[List[Any]] = [list(values) for values in zip(*units)] or [[]] * 6
-        # Of each unit: "works", "faulty" or "idle"; and else None, the units of its cfg, its clk, and the words of its in and out.
         self.states: List[str] = told[0]
         self.configurations: List[Optional[Tuple[int, ...]]] = told[1]
         self.clocks: List[Optional[int]] = told[2]
         self.inputs: List[Optional[Tuple[int, ...]]] = told[3]
         self.outputs: List[Optional[Tuple[int, ...]]] = told[4]
-        self.catches: List[Dict[int, str]] = told[5]  # of each unit: the units of its bad, with the letters of the kinds; none in version 1
+        self.catches: List[Dict[int, str]] = told[5]
         self.skew, self.slack, self.margin = figures
         # The configuration of the lowest unit that tells one, or None; the units that some unit caught; the versions in which
         # they are told; the greatest unit that is named; and the words of the outs, each once.
