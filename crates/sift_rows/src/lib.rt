@@ -23,6 +23,8 @@ mod pilots;
 #[cfg(test)]
 mod pool;
 #[cfg(test)]
+mod registers;
+#[cfg(test)]
 mod rogue;
 #[cfg(test)]
 mod texts;
