@@ -60,14 +60,15 @@ class Reader:
 
     def told(self, faults, report, room):
         """The same, as it stands in a room: of each fault what was found, and behind them the outcome."""
-        traces = tuple([self.trace_of(fault.slot, *FAULT.unpack_from(room, place * FAULT.size)) for place, fault in enumerate(faults)])
+        traces = tuple([self.trace_of(fault.slot, room[place * FAULT.size : (place + 1) * FAULT.size]) for place, fault in enumerate(faults)])
         margin, wrong, first, words, last = OUTCOME.unpack_from(room, len(faults) * FAULT.size)
         names = tuple([self.schedule.names[place] for place in members_of(words)]) if words else ()
         return Outcome(traces, margin == 1, wrong, frame_of(first), names, report[last:-1].decode("ascii"))
 
-    def trace_of(self, slot, unit, begin, caught, by, out, *inside):
-        """What is shown of a fault in a slot, of which this was found."""
-        return Trace(self.said_in(unit, slot, inside), frame_of(caught), members_of(by), frame_of(out))
+    def trace_of(self, slot, found):
+        """What is shown of a fault in a slot, of which these bytes were found."""
+        unit, _, caught, by, out, *inside = FAULT.unpack(found)
+        return Trace(self.said_in(unit, slot, tuple(inside)), frame_of(caught), members_of(by), frame_of(out))
 
     def said_in(self, unit, slot, inside):
         """Whether a unit says a slot in some of these configurations."""
