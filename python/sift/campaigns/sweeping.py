@@ -15,7 +15,6 @@ from sift.campaigns.kits import KEPT, can_fly, kit_of, kits_of, new_kit
 from sift.campaigns.promised import contradictions, promises_of
 from sift.campaigns.records import Reading, Records, written
 from sift.campaigns.rows import counted
-from sift.campaigns.summary import Summary
 from sift.documents import places
 from sift.documents.slots import KINDS
 from sift.files import read_source
@@ -368,6 +367,8 @@ class Tally:
     """What the rows of a campaign come to, each read once."""
 
     def __init__(self, records):
+        from sift.campaigns.summary import Summary  # while others fly
+
         self.summary = Summary([str(requirement) for requirement in records.campaign.required])
         self.failing = Failing(records.campaign)
         self.reading = Reading(records, self.add)
