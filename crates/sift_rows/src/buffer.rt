@@ -1,9 +1,12 @@
 //! Journals. Rows of cells are proved, in proofs/Cells.antt.
 
+ghost use Rattle.sift_buffer.specs.Journals.{IsJournalOf};
+
 use crate::fixture::unit;
 use sift_base::{Layout, Word};
 use sift_buffer::Journal;
 use std::mem::size_of;
+use std::process::Abort;
 use std::test::Fail;
 
 /// Four units, a sensor and an output word: nine slots.
@@ -13,31 +16,36 @@ const LAYOUT: Layout = Layout {
     words: 1,
 };
 
-#[test]
-fn a_journal_gives_what_was_noted_last(rt: HostRuntime) -> Result<(), Fail> {
-    let own = unit(0);
+/// A journal gives this word, or absence.
+fn expect(rt: &impl Abort, read: Option<Word>, want: Option<Word>) {
+    assert_eq!(rt; read, want);
+}
+
+/// The words that were noted are at their places, and at no other.
+fn expect_noted(rt: &impl Abort, journal: &Journal)
+    requires { IsJournalOf journal.now LAYOUT 0 2 }
+{
     let one = unit(1);
     let three = unit(3);
-    let mut journal = Journal::make(rt.alloc(), LAYOUT, own, 2)?;
-    let blank = journal.said(1, 8, three);
-    assert_eq!(rt; blank, None);
+    expect(rt, journal.said(1, 8, three), Some(Word::of(7)));
+    expect(rt, journal.heard(1, 8, three), Some(Word::of(9)));
+    expect(rt, journal.said(0, 8, three), None);
+    expect(rt, journal.said(1, 7, three), None);
+    expect(rt, journal.said(1, 8, one), None);
+    expect(rt, journal.heard(0, 8, three), None);
+    expect(rt, journal.heard(1, 0, one), None);
+}
+
+#[test]
+fn a_journal_gives_what_was_noted_last(rt: HostRuntime) -> Result<(), Fail> {
+    let three = unit(3);
+    let mut journal = Journal::make(rt.alloc(), LAYOUT, unit(0), 2)?;
+    expect(&rt, journal.said(1, 8, three), None);
     journal.note_said(1, 8, three, Some(Word::of(7)));
     journal.note_heard(1, 8, three, Some(Word::of(9)));
-    let reads = [
-        (journal.said(1, 8, three), Some(7)),
-        (journal.heard(1, 8, three), Some(9)),
-        (journal.said(0, 8, three), None),
-        (journal.said(1, 7, three), None),
-        (journal.said(1, 8, one), None),
-        (journal.heard(0, 8, three), None),
-        (journal.heard(1, 0, one), None),
-    ];
-    for (read, want) in reads {
-        assert_eq!(rt; read, want.map(Word::of));
-    }
+    expect_noted(&rt, &journal);
     journal.note_said(1, 8, three, None);
-    let again = journal.said(1, 8, three);
-    assert_eq!(rt; again, None);
+    expect(&rt, journal.said(1, 8, three), None);
     Ok(())
 }
 
