@@ -1,4 +1,3 @@
 -- What follows from the definitions, with its proofs: what the proofs of crates above may cite.
 pub mod Both
 pub mod Flown
-pub mod Strays

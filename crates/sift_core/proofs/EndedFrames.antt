@@ -15,7 +15,7 @@ use Rattle.sift_unit.specs.declared.board.Board.{Board}
 use Rattle.sift_core.specs.Machines.{Flies, IsFlying, HasTurnedIn, board_at, accounts_at}
 use Rattle.sift_core.specs.Ended.{EndedFramesAreRound}
 use Rattle.sift_core.specs.declared.machine.Machine.{Machine}
-use Rattle.sift_core.specs.laws.Stages.{keeps_turned}
+use Rattle.sift_core.proofs.Stages.{keeps_turned}
 use Rattle.sift_core.proofs.MachineSteps.{unit_below}
 use Rattle.sift_core.proofs.Progress.{flyable}
 

@@ -7,6 +7,7 @@ pub mod MachineSteps
 pub mod NewMachines
 pub mod Others
 pub mod Progress
+pub mod Stages
 pub mod Storming
 pub mod StrayEvents
 pub mod Turning

@@ -23,7 +23,7 @@ use Rattle.sift_core.specs.Steps.{StepsUnit, IsWaiting}
 use Rattle.sift_core.specs.Turns.{IsAloft, IsLeast}
 use Rattle.sift_core.specs.declared.machine.Machine.{Machine}
 use Rattle.sift_seat.specs.laws.Ends.{end_low}
-use Rattle.sift_core.specs.laws.Stages.{keeps_flying, not_left, unfinished_low}
+use Rattle.sift_core.proofs.Stages.{keeps_flying, not_left, unfinished_low}
 use Rattle.sift_core.proofs.MachineSteps.{unit_below}
 use Rattle.sift_core.proofs.Others.{others_stay}
 use Rattle.sift_core.proofs.Lists.{sums}

@@ -5,4 +5,3 @@ pub mod Machines
 pub mod Steps
 pub mod Storms
 pub mod Turns
-pub mod laws

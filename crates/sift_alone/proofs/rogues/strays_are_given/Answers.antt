@@ -2,7 +2,7 @@ use Rattle.sift_flight.specs.Flight.{no_strays}
 use Rattle.sift_rogue.specs.Rogues.{AllowsDrawn}
 use Rattle.sift_alone.specs.Given.{AreGiven, resting_storms}
 use Rattle.sift_alone.specs.Strays.{drawn_strays}
-use Rattle.sift_alone.specs.laws.Strays.{calm_missions_get_none, flown_over, storms_give_draws}
+use Rattle.sift_alone.proofs.Strays.{calm_missions_get_none, flown_over, storms_give_draws}
 use Rattle.sift_alone.proofs.rogues.strays_are_given.Goals as goal
 
 pub returns-clause-drawn : goal.returns-clause-drawn

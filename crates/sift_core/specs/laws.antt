@@ -1,2 +1,0 @@
--- What follows from the definitions, with its proofs: what the proofs of crates above may cite.
-pub mod Stages
