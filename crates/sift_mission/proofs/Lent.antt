@@ -7,7 +7,7 @@ use Rattle.sift_program.specs.contracts.program.Program as Program
 use Rattle.sift_mission.specs.contracts.mission.Mission as Mission
 use Rattle.sift_mission.specs.contracts.mission.Mission.TheInside as Inside
 use Rattle.sift_mission.specs.contracts.mission.MissionParts as MissionParts
-use Rattle.sift_code.proofs.checked.Checked.TheSendSync as checked
+use Rattle.sift_registers.proofs.registers.Registers.TheSendSync as registers
 use Rattle.sift_script.proofs.checked.GoodScript.TheSendSync as script
 use Rattle.sift_skew.proofs.clocks.ClockPlan.TheSendSync as clock
 use Rattle.sift_table.proofs.table.GoodTable.TheSendSync as table
@@ -33,7 +33,7 @@ parts_sync = declared_sync MissionParts.the_type (
           (
             search (sendable, crosses, program_sync) depth 40 fits 20000,
             (
-              search (sendable, crosses, checked.the_sync) depth 40 fits 20000,
+              search (sendable, crosses, registers.the_sync) depth 40 fits 20000,
               (
                 search (sendable, crosses, table.the_sync) depth 40 fits 20000,
                 (

@@ -19,10 +19,10 @@ use crate::crews::{Crews, all_crews};
 use crate::timetable::{Timetable, timetables};
 use arrayvec::ArrayVec;
 use sift_base::{Layout, Name, UnitId, UnitSet, Word};
-use sift_code::Checked;
 use sift_config::Config;
 use sift_lang::Task;
 use sift_program::Program;
+use sift_registers::Registers;
 use sift_script::{GoodScript, working_units_say_their_words};
 use sift_skew::ClockPlan;
 use sift_table::GoodTable;
@@ -46,7 +46,7 @@ pub struct MissionParts {
     /// The tasks, and the words that stand for theirs before frame 0.
     pub program: Program,
     /// The code of each task.
-    pub code: Vec<Checked>,
+    pub code: Vec<Registers>,
     /// The table for the configurations of each size, from four units on.
     pub tables: Vec<GoodTable>,
     /// The words of each sensor, 1 to 1,000, which come round and round.
@@ -200,7 +200,7 @@ impl Mission {
     }
 
     /// The code of a task.
-    pub fn code(&self, t: usize) -> &Checked
+    pub fn code(&self, t: usize) -> &Registers
         requires { t < (flown_of self.now).tasks }
         ensures { IsCodeOf (flown_of self.now).sensors (flown_of self.now).words (task_at (data_of self.now).program.tasks t) result.now }
     {

@@ -3,7 +3,7 @@
 ghost use Rattle.std.specs.Prelude.{◌≡◌, ◌++◌, ◌≤◌, ◌<◌, IfOk, OnOk, length, string_bytes, ℕ, ◌+◌, List, [], drop, take};
 ghost use Rattle.sift_base.specs.Layout.{sensor_limit};
 ghost use Rattle.sift_pool.specs.Region.{IsLive};
-ghost use Rattle.sift_code.specs.declared.machine.TheConstants.{WORK_WORDS};
+ghost use Rattle.sift_registers.specs.declared.file.TheConstants.{FILE_WORDS};
 ghost use Rattle.sift_lang.specs.Meaning.{meaning};
 ghost use Rattle.sift_program.specs.Ideal.{ideal_frame, ideal_words, words_before};
 ghost use Rattle.sift_program.specs.Program.{task_at};
@@ -12,11 +12,11 @@ ghost use Rattle.sift_report.specs.Ideal.{ideal_of, outputs_text, sensed_in};
 
 use arrayvec::ArrayVec;
 use sift_base::{NoMemory, Word};
-use sift_code::{WORK_WORDS, run};
 use sift_line::push_list;
 use sift_mission::{Mission, a_mission_flies};
 use sift_pool::{Pool, Span};
 use sift_program::WORD_LIMIT;
+use sift_registers::{FILE_WORDS, run_registers};
 use std::alloc::{AllocError, Global};
 use std::marker::Model;
 
@@ -71,7 +71,7 @@ impl Model for CompiledIdeal {
 
     ghost view = { λ ideal. ideal.words.items };
 
-    ghost invariant = { λ ideal. IsLive ideal.pool ideal.work × (ideal.work.len ≡ WORK_WORDS) };
+    ghost invariant = { λ ideal. IsLive ideal.pool ideal.work × (ideal.work.len ≡ FILE_WORDS) };
 }
 
 impl CompiledIdeal {
@@ -81,8 +81,8 @@ impl CompiledIdeal {
         ensures a_word_each { IfOk result (λ ideal. length ideal ≡ (flown_of mission.now).words) }
     {
         a_mission_flies(mission);
-        let mut pool = Pool::make(alloc, WORK_WORDS, 1).map_err(|_| NoMemory)?;
-        let work = pool.carve(WORK_WORDS).unwrap();
+        let mut pool = Pool::make(alloc, FILE_WORDS, 1).map_err(|_| NoMemory)?;
+        let work = pool.carve(FILE_WORDS).unwrap();
         let mut words = ArrayVec::new();
         words.try_extend_from_slice(mission.starts()).unwrap();
         Ok(CompiledIdeal { pool, work, words })
@@ -129,7 +129,7 @@ impl CompiledIdeal {
         ensures same { self.new ≡ self.old }
     {
         let mut outs = ArrayVec::new();
-        run(
+        run_registers(
             mission.code(task),
             &mut self.pool,
             &self.work,

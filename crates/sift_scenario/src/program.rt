@@ -23,11 +23,10 @@ use crate::document::Entries;
 use crate::entries::{Form, Starts};
 use crate::mission::{Refused, code_refused, text_refused};
 use sift_base::{Name, NoMemory, Stop, Word};
-use sift_code::Checked;
-use sift_compile::compile;
 use sift_lang::{Expr, Op, Stmt, Task};
 use sift_parse::{Names, parse_task};
 use sift_program::Program;
+use sift_registers::{Registers, compile_registers};
 use std::alloc::Global;
 
 // ---- trees, code and start words, task by task
@@ -77,7 +76,7 @@ const STEP_LIMIT: u32 = 16_384;
 #[derive(Drop)]
 pub(crate) struct Compiled {
     pub trees: Vec<Task>,
-    pub codes: Vec<Checked>,
+    pub codes: Vec<Registers>,
 }
 
 /// The trees and the code of the tasks of these forms, each in its turn. There are so many sensors and
@@ -118,7 +117,7 @@ fn compile_tasks(
                 left,
             },
         )?;
-        left -= code.bound();
+        left -= code.stack().bound();
         trees.push(tree)?;
         codes.push(code)?;
     }
@@ -134,7 +133,12 @@ struct Room {
 }
 
 /// The code of a tree that has so much room.
-fn tree_code(alloc: Global, tree: &Task, task: usize, room: Room) -> Result<Checked, Stop<Refused>>
+fn tree_code(
+    alloc: Global,
+    tree: &Task,
+    task: usize,
+    room: Room,
+) -> Result<Registers, Stop<Refused>>
     requires task { task < 2 ^ 32 }
     requires sound { IsSound room.sensors room.words (tree_of tree.now) }
     requires left { room.left ≤ step_limit }
@@ -146,7 +150,7 @@ fn tree_code(alloc: Global, tree: &Task, task: usize, room: Room) -> Result<Chec
     // Code over a limit is refused so, whatever memory there is.
     ensures over { (refused : Refused) → IsOver room.left task (tree_of tree.now) refused → result ≡ Err (Stop.Refused refused) }
 {
-    match compile(alloc, tree, room.sensors, room.words, room.left) {
+    match compile_registers(alloc, tree, room.sensors, room.words, room.left) {
         Ok(code) => Ok(code),
         Err(stop) => Err(code_refused(task, stop)),
     }
@@ -204,7 +208,7 @@ fn linear_task(alloc: Global, word: u8, factor: Word, addend: Word) -> Result<Ta
 #[derive(Drop)]
 pub(crate) struct Running {
     pub program: Program,
-    pub code: Vec<Checked>,
+    pub code: Vec<Registers>,
 }
 
 /// The program of the tasks among these entries, with the code of each.

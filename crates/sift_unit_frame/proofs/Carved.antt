@@ -4,7 +4,7 @@ use Rattle.std.specs.Prelude.{slice_index_or}
 use Rattle.std.proofs.lemmas.List.{get_or_append_left, get_or_push, get_or-take, length_push, length-replicate, length-take-le, take_all}
 use Rattle.std.proofs.lemmas.List.Sums.{sum_by_push, sum_by_more}
 use Rattle.sift_pool.specs.Region.{Region, Extent, KeepsLive, KeepsLiveBelow, Carves, words_at, first_spans, left_in}
-use Rattle.sift_unit_frame.specs.Carving.{Adds, Rewords, IsSpan, HasScratch, IsCarved}
+use Rattle.sift_unit_frame.specs.Carving.{Adds, Rewords, IsSpan, HasScratch, IsCarved, words_of_a_run}
 
 -- a span that was carved is one more, and all else stays
 pub adds : (old new : Region) (len : ℕ) (span : Extent) → Carves old new len span → KeepsLive old new → len ≤ left_in old → Adds old new len span
@@ -79,7 +79,7 @@ module _ (pool : Region) (agreed before voted work : Extent) (mark : ℕ) where
         span_long pool agreed 0 sensors c.holds_agreed,
         span_long pool before 1 words c.holds_before,
         span_long pool voted 2 words c.holds_voted,
-        span_long pool work 3 352 c.holds_work,
+        span_long pool work 3 words_of_a_run c.holds_work,
       )
 
   -- a span for made words is carved there

@@ -3,7 +3,7 @@ use Rattle.std.proofs.Common.{◌≡◌, ℕ, ◌+◌, ◌*◌, ◌<◌, ◌≤�
 use Rattle.std.proofs.lemmas.List.{append-nil, drop_all}
 use Rattle.sift_pool.specs.Region.{Region, Extent, KeepsLiveBelow, words_at, first_spans, empty_region, left_in}
 use Rattle.sift_unit_frame.specs.FrameWords.{first_words, next_words}
-use Rattle.sift_unit_frame.specs.Carving.{Adds, Rewords, IsSpan, IsCarved, IsFile, words_in}
+use Rattle.sift_unit_frame.specs.Carving.{Adds, Rewords, IsSpan, IsCarved, IsFile, words_in, words_of_a_run}
 use Rattle.sift_unit_frame.proofs.Carved.{carved_reworded, carved_released, words_first, scratch_room, carved_added}
 
 -- a span has as many words as it says
@@ -17,8 +17,8 @@ whole list words same = ap (λ xs. words ++ xs) (drop_all (0 + length words) lis
 -- ---- before the flight
 
 module _ (p0 p1 p2 p3 p4 p5 p6 : Region) (agreed before voted work made : Extent) (mark sensors words : ℕ) (starts : List ℕ)
-    (empty : p0 ≡ empty_region (352 + sensors + 3 * words) 5) (long : words ≡ length starts)
-    (a1 : Adds p0 p1 sensors agreed) (a2 : Adds p1 p2 words before) (a3 : Adds p2 p3 words voted) (a4 : Adds p3 p4 352 work)
+    (empty : p0 ≡ empty_region (words_of_a_run + sensors + 3 * words) 5) (long : words ≡ length starts)
+    (a1 : Adds p0 p1 sensors agreed) (a2 : Adds p1 p2 words before) (a3 : Adds p2 p3 words voted) (a4 : Adds p3 p4 words_of_a_run work)
     (here : mark ≡ length p4.spans) (a5 : Adds p4 p5 words made)
     (stored : Rewords p5 p6 before.number (take 0 (words_at p5 before.number) ++ (starts ++ drop (0 + length starts) (words_at p5 before.number)))) where
   none : length p0.spans ≡ 0
@@ -31,7 +31,7 @@ module _ (p0 p1 p2 p3 p4 p5 p6 : Region) (agreed before voted work made : Extent
       let n1 = a1.newest in let n2 = a2.newest in let n3 = a3.newest in let n4 = a4.newest in let n5 = a5.newest in
       let w1 = a1.long in let w2 = a2.long in
       let room : p0.room ≡ 5 = ap (λ (r : Region). r.room) empty in
-      let size : p0.capacity ≡ 352 + sensors + 3 * words = ap (λ (r : Region). r.capacity) empty in
+      let size : p0.capacity ≡ words_of_a_run + sensors + 3 * words = ap (λ (r : Region). r.capacity) empty in
       let all : p5.capacity ≡ p0.capacity = a5.capacity ∙ a4.capacity ∙ a3.capacity ∙ a2.capacity ∙ a1.capacity in
       record {
         holds_agreed = record { live = a5.kept agreed (a4.kept agreed (a3.kept agreed (a2.kept agreed a1.live))); numbered = omega arith; long = refl };

@@ -29,9 +29,10 @@ pub record Rewords (old new : Region) (number : ℕ) (words : List ℕ) : Type 0
 
 -- ---- the spans of a frame
 
--- a run works in so many words: a stack of 256, 32 locals, and two for each of 32 open loops
+-- a run works in so many words: 8 output words, 32 locals, 8 agreed words, 64 words of this frame and 64 of the last one, 1,024 numbers, and 288
+-- free places
 abbrev pub words_of_a_run : ℕ
-words_of_a_run = 352
+words_of_a_run = 1488
 
 -- the pool has this span, with this number and so many words
 pub record IsSpan (pool : Region) (span : Extent) (number len : ℕ) : Type 0 where

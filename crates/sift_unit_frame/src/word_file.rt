@@ -9,8 +9,8 @@ ghost use Rattle.sift_unit_frame.specs.FrameWords.{first_words, with_agreed, wit
 
 use arrayvec::ArrayVec;
 use sift_base::{NoMemory, Word};
-use sift_code::{Checked, WORK_WORDS, run};
 use sift_pool::{Mark, Pool, Span};
+use sift_registers::{FILE_WORDS, Registers, run_registers};
 use std::alloc::Global;
 use std::marker::Model;
 
@@ -62,12 +62,12 @@ impl WordFile {
         ensures { IfOk result (λ file. file ≡ first_words sensors starts.now) }
     {
         let words = starts.len();
-        let size = WORK_WORDS + sensors + 3 * words;
+        let size = FILE_WORDS + sensors + 3 * words;
         let mut pool = Pool::make(alloc, size, 5).map_err(|_| NoMemory)?;
         let agreed = carve(&mut pool, sensors);
         let before = carve(&mut pool, words);
         let voted = carve(&mut pool, words);
-        let work = carve(&mut pool, WORK_WORDS);
+        let work = carve(&mut pool, FILE_WORDS);
         // What is carved from here on is given back at each frame's end.
         let mark = pool.mark();
         let made = carve(&mut pool, words);
@@ -142,7 +142,7 @@ impl WordFile {
 
     /// Runs code on the agreed words, this frame's words and those of the frame before. It takes no
     /// memory.
-    pub(crate) fn run(&mut self, code: &Checked) -> ArrayVec<Word, 8>
+    pub(crate) fn run(&mut self, code: &Registers) -> ArrayVec<Word, 8>
         requires { Fits (inputs self.old.agreed self.old.voted self.old.before) code.now.limits }
         ensures ran { RunsTo code.now (inputs self.old.agreed self.old.voted self.old.before) result.items }
         ensures count { length result.items ≡ code.now.limits.outputs }
@@ -154,7 +154,7 @@ impl WordFile {
             before,
             voted,
         } = &self.inputs;
-        run(
+        run_registers(
             code,
             &mut self.pool,
             &self.work,

@@ -1,11 +1,12 @@
 use Rattle.std.proofs.Common.{rules, ◌≡◌, ◌+◌, ◌*◌, length, refl, sym, ap, arith}
 use Rattle.sift_pool.specs.Region.{empty_region, left_in}
+use Rattle.sift_unit_frame.specs.Carving.{words_of_a_run}
 use Rattle.sift_unit_frame.proofs.Filing.{first_is, first_file}
 use Rattle.sift_unit_frame.proofs.word_file.WordFile.make.Goals.{In_ok-pool}
 use Rattle.sift_unit_frame.proofs.word_file.WordFile.make.Goals as goal
 
 -- the pool as it was taken from memory
-taken : (c : In_ok-pool) → c.in_ok-pool.pool ≡ empty_region (352 + c.args.sensors + 3 * length c.args.starts.now) 5
+taken : (c : In_ok-pool) → c.in_ok-pool.pool ≡ empty_region (words_of_a_run + c.args.sensors + 3 * length c.args.starts.now) 5
 taken c = search (rules, c.make.ensures.made, c.map_err.ensures, c.in_ok-pool.ensures, c.in_ok-pool.is, c.in_ok-pool.was)
 
 pub invariant_of-result : goal.invariant_of-result
@@ -20,7 +21,7 @@ returns c =
     c.carve-made.ensures c.store.ensures
 
 -- all its words are left
-all_left : (c : In_ok-pool) → left_in c.in_ok-pool.pool ≡ 352 + c.args.sensors + 3 * length c.args.starts.now
+all_left : (c : In_ok-pool) → left_in c.in_ok-pool.pool ≡ words_of_a_run + c.args.sensors + 3 * length c.args.starts.now
 all_left c = omega (arith, ap left_in (taken c))
 
 pub carve-agreed-requires-clause-words : goal.carve-agreed-requires-clause-words
