@@ -13,7 +13,7 @@ ghost use Rattle.sift_document.specs.Rules.{AreMatched};
 ghost use Rattle.sift_compile.specs.Tasks.{AreCodesOf, IsCodeOf};
 ghost use Rattle.sift_scenario.specs.Program.{AreAllowed, IsTreeOf, step_limit, turn_of};
 ghost use Rattle.sift_scenario.specs.Refusal.{IsFirstRefused, IsNoTask, IsOver, IsRefusedWith};
-ghost use Rattle.sift_base.specs.Layout.{sensor_limit};
+ghost use Rattle.sift_base.specs.Layout.{sensor_limit, word_limit};
 ghost use Rattle.sift_base.specs.Shapes.{task_limit};
 ghost use Rattle.sift_scenario.specs.Testing.{AreTurns, IsCodeStop, form_of};
 ghost use Rattle.toml.specs.Data.{Members};
@@ -140,6 +140,8 @@ fn tree_code(
     room: Room,
 ) -> Result<Registers, Stop<Refused>>
     requires task { task < 2 ^ 32 }
+    requires few_sensors { room.sensors ≤ sensor_limit }
+    requires few_words { room.words ≤ word_limit }
     requires sound { IsSound room.sensors room.words (tree_of tree.now) }
     requires left { room.left ≤ step_limit }
     ensures code { IfOk result (IsCodeOf room.sensors room.words (tree_of tree.now)) }

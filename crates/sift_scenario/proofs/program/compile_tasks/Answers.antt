@@ -73,10 +73,17 @@ loop-task-preserved c =
           (taken form_of c.args.forms.now c.loop-task.task _ c.loop-task-test.true c.index-forms-task.is)
           (subst (λ (roll : Roll). IsTreeOf roll (form_of c.index-forms-task.result) tree) turn c.in_ok-tree.ensures.tree)),
       rw new (allowed_more trees tree c.loop-task.invariant.4 (c.in_ok-code.ensures.short refl, rw c.loop-task.invariant.5 at quick)),
-      rw new (left_more trees tree c.loop-task.left c.bound-left.result _ c.loop-task.invariant.5 c.bound-left.ensures
+      rw new (left_more trees tree c.loop-task.left c.bound-left.result _ c.loop-task.invariant.5 (rw c.stack.ensures at c.bound-left.ensures)
           c.in_ok-code.ensures.steps quick),
       rw new (codes_more c.args.sensors c.args.words trees tree _ _ _ c.loop-task.invariant.6 c.in_ok-push-2.ensures.items c.in_ok-code.ensures.code),
     )
+
+-- there are few sensors and words
+pub tree_code-requires-clause-few_sensors : goal.tree_code-requires-clause-few_sensors
+tree_code-requires-clause-few_sensors c = rw c.requires.sensors (c.requires.turns c.loop-task.task c.loop-task-test.true).few_sensors
+
+pub tree_code-requires-clause-few_words : goal.tree_code-requires-clause-few_words
+tree_code-requires-clause-few_words c = rw c.requires.words (c.requires.turns c.loop-task.task c.loop-task-test.true).words
 
 -- a task has a number, and some steps are left
 pub tree_code-requires-clause-task : goal.tree_code-requires-clause-task
@@ -86,7 +93,7 @@ pub tree_code-requires-clause-left : goal.tree_code-requires-clause-left
 tree_code-requires-clause-left c = omega (arith, c.loop-task.invariant.5)
 
 pub overflow_sub-left : goal.overflow_sub-left
-overflow_sub-left c = omega (arith, c.bound-left.ensures, c.in_ok-code.ensures.steps, c.in_ok-code.ensures.quick refl)
+overflow_sub-left c = omega (arith, rw c.stack.ensures at c.bound-left.ensures, c.in_ok-code.ensures.steps, c.in_ok-code.ensures.quick refl)
 
 -- all tasks have a tree and code
 pub returns-clause-trees : goal.returns-clause-trees
