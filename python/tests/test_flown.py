@@ -24,8 +24,13 @@ def stored(name):
 
 
 def sweep(*words, **more):
+    """A campaign that has begun. Ctrl-C ends it, also where these tests were begun in the background, where it is ignored."""
     called = [sys.executable, str(TOP / "tools" / "sweep"), *map(str, words)]
-    return subprocess.Popen(called, stdout=subprocess.PIPE, stderr=subprocess.PIPE, text=True, start_new_session=True, **more)
+    return subprocess.Popen(called, stdout=subprocess.PIPE, stderr=subprocess.PIPE, text=True, start_new_session=True, preexec_fn=hear_ctrl_c, **more)
+
+
+def hear_ctrl_c():
+    signal.signal(signal.SIGINT, signal.SIG_DFL)
 
 
 def ended(flight):

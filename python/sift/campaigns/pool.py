@@ -4,7 +4,7 @@ import os
 import struct
 import sys
 # As signal has them, which takes as long to load as some flights.
-from _signal import SIG_DFL, SIGINT, SIGKILL, signal  # type: ignore[import]
+from _signal import SIG_DFL, SIG_IGN, SIGINT, SIGKILL, getsignal, signal  # type: ignore[import]
 
 from sift.campaigns.flights import NoRow, batches_text
 from sift.campaigns.library import keep_memory
@@ -69,7 +69,8 @@ class Pool:
             return child
         status = 1
         try:
-            signal(SIGINT, SIG_DFL)
+            if getsignal(SIGINT) != SIG_IGN:  # as it is where a shell began the tool in the background: then it is ignored here, too
+                signal(SIGINT, SIG_DFL)
             ctypes.CDLL(None).prctl(DIE_WITH_PARENT, SIGKILL)
             keep_memory()
             if os.getppid() == parent:
